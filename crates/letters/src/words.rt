@@ -43,13 +43,17 @@ const LETTER_FIRST: u16 = 64;
 const LETTER_SECOND: u16 = 8;
 
 // The kinds of a letter, by the number in its word.
-const COPY: u8 = 0;
+/// The kind of a copy.
+pub const COPY: u8 = 0;
 
-const APPLY: u8 = 1;
+/// The kind of an application.
+pub const APPLY: u8 = 1;
 
-const EQUAL: u8 = 2;
+/// The kind of a test of equality.
+pub const EQUAL: u8 = 2;
 
-const UNEQUAL: u8 = 3;
+/// The kind of a test of inequality.
+pub const UNEQUAL: u8 = 3;
 
 /// Two bytes as a word, the first the more significant.
 pub fn word(high: u8, low: u8) -> u16

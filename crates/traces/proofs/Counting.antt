@@ -1,31 +1,30 @@
 -- The loops that read letters one by one and count them.
+use Rattle.std.specs.Simd.{first_chunks}
+use Rattle.std.proofs.lemmas.List.{take_all}
+use lib.Seq.{drop-cons, drop-drop}
 use mathlib.Core.Path.{◌≡◌, refl, sym, ap, ◌∙◌}
-use Prim.Native.Nat.{ℕ, suc, ◌+◌, ◌-◌, ◌*◌, ◌≤◌, ◌<◌}
+use Prim.Native.Nat.{ℕ, zero, suc, ◌/◌, ◌%◌, ◌+◌, ◌-◌, ◌*◌, ◌≤◌, ◌<◌}
 use native.Mathlib.Omega.{arith}
-use native.Mathlib.Nat.{add-zero, zero-add, sub-zero}
+use native.Mathlib.Nat.{add-zero, zero-add, mul-zero, mul-suc, add_comm}
 use mathlib.Core.List.{List, [], ◌∷◌}
-use lib.ListN.{length, get_or, take, drop, length-take, length-drop}
-use lib.Seq.{drop-drop, get_or-take, get_or-drop}
+use lib.ListN.{length, get_or, take, drop, length-take, length-drop, drop_of_length-le}
 use lib.Dec.{ltb}
 use mathlib.Core.Bool.{Bool, true, false}
-use borrow.Author.Tests.{ltb-false, eq-eqb, ne_eqb}
+use borrow.Author.Tests.{ltb-false, eq-eqb, ne_eqb, lt-leb, le-leb}
 use Rattle.base.specs.Choice.{pick}
 use Rattle.base.proofs.Theory.Choice.{by_test}
-use Rattle.traces.proofs.Theory.Units.{unit_at}
-use Rattle.traces.specs.declared.HeaderRead.{HeaderRead}
-use Rattle.traces.specs.declared.HeaderRead.TheVariants as begun_as
-use Rattle.traces.specs.Writing.{plain_letter, unpack_letter}
+use Rattle.traces.specs.Writing.{plain_letter, unpack_letter, unpacked_parts}
 use Rattle.letters.specs.declared.Header.{Header}
 use Rattle.letters.specs.declared.Letter.{Letter}
-use Rattle.letters.specs.declared.DecodedLetter.{DecodedLetter}
-use Rattle.letters.specs.declared.DecodedLetter.TheVariants as decoded_letter
 use Rattle.letters.specs.Editions.{first_edition}
 use Rattle.letters.specs.Answers.{Answer, value, refusal, on_answer}
 use Rattle.letters.specs.CodeAnswers.{letter_answer}
-use Rattle.traces.specs.Answers.{beginning_answer}
+use Rattle.letters.specs.Packing.{join}
 use Rattle.letters.specs.Coding.{decode_letter}
+use Rattle.std.proofs.Common.{Option, Some, None, is_some}
+use native.Mathlib.Numerals.{add-one}
 use Rattle.traces.specs.Reading.{TraceReading, trace, prepend_letter, letters_from, chunks, letter_in, beginning, letter_count, letters_of, reading_where}
-use Rattle.traces.specs.ReadingParts.{counted}
+use Rattle.traces.specs.ReadingParts.{counted, letter_at}
 
 module _ {A : Type 0} (decode : A → Answer Letter) (h : Header) where
   -- the letters of these codes counted on from n
@@ -56,39 +55,35 @@ module _ {A : Type 0} (decode : A → Answer Letter) (h : Header) where
       by r c e (value l) = shift_before n l r ∙ e
       by r c e (refusal number place) = refl
 
--- the loop over the parts of s, b bytes each, k in all, of which n are read and the next starts at `at`
-module _ (decode : List ℕ → Answer Letter) (h : Header) (b k : ℕ) (s : List ℕ) where
-  pub count_begins : (at : ℕ) → count_from decode h 0 (chunks b (k - 0) (drop at s)) ≡ counted (letters_from decode h 1 (chunks b k (drop at s)))
-  count_begins at = rw sub-zero (sym (counted_on decode h 0 (chunks b k (drop at s))) ∙ shift_none _)
+-- the loop over these codes, of which n are read
+module _ {A : Type 0} (decode : A → Answer Letter) (h : Header) (codes : List A) where
+  pub count_begins : count_from decode h 0 codes ≡ counted (letters_from decode h 1 codes)
+  count_begins = sym (counted_on decode h 0 codes) ∙ shift_none _
 
-  turn : (n at : ℕ) → n < k
-      → count_from decode h n (chunks b (k - n) (drop at s)) ≡ on_answer (decode (take b (drop at s)))
-      (λ _. count_from decode h (n + 1) (chunks b (k - (n + 1)) (drop (at + b) s))) λ _ _. refusal 4 (n + 1)
-  unfolding count_from chunks
-  turn n at l = let m : k - n ≡ suc (k - (n + 1)) = omega arith in rw (m, ← drop-drop b at s)
+  turn : (n : ℕ) (d : A) → n < length codes
+      → count_from decode h n (drop n codes)
+      ≡ on_answer (decode (get_or codes n d)) (λ _. count_from decode h (n + 1) (drop (n + 1) codes)) λ _ _. refusal 4 (n + 1)
+  unfolding count_from
+  turn n d l = rw (drop-cons codes n d l, add-one n)
 
-  pub count_good : (n at : ℕ) (l : Letter) → n < k → decode (take b (drop at s)) ≡ value l
-      → count_from decode h n (chunks b (k - n) (drop at s)) ≡ count_from decode h (n + 1) (chunks b (k - (n + 1)) (drop (at + b) s))
-  count_good n at l m e = turn n at m ∙ rw e
+  pub count_good : (n : ℕ) (d : A) (read : Option Letter) → n < length codes → letter_answer read ≡ decode (get_or codes n d) → is_some read ≡ true
+      → count_from decode h n (drop n codes) ≡ count_from decode h (n + 1) (drop (n + 1) codes)
+  count_good n d (Some l) m e s = turn n d m ∙ rw (← e)
+  count_good n d None m e s = let z : ◌≡◌ {A = ℕ} 0 1 = cc in absurd (omega arith)
 
-  pub count_bad : (n at a p : ℕ) → n < k → decode (take b (drop at s)) ≡ refusal a p → count_from decode h n (chunks b (k - n) (drop at s)) ≡ refusal 4 (n + 1)
-  count_bad n at a p m e = turn n at m ∙ rw e
+  pub count_bad : (n : ℕ) (d : A) (read : Option Letter) → n < length codes → letter_answer read ≡ decode (get_or codes n d) → is_some read ≡ false
+      → count_from decode h n (drop n codes) ≡ refusal 4 (n + 1)
+  count_bad n d None m e s = turn n d m ∙ rw (← e)
+  count_bad n d (Some l) m e s = let z : ◌≡◌ {A = ℕ} 0 1 = cc in absurd (omega arith)
 
-  pub count_ends : (n at : ℕ) → k ≤ n → count_from decode h n (chunks b (k - n) (drop at s)) ≡ value (h, n)
-  unfolding count_from chunks
-  count_ends n at l = let m : k - n ≡ 0 = omega arith in rw m
+  pub count_none : (n a p : ℕ) (d : A) → n < length codes → decode (get_or codes n d) ≡ refusal a p
+      → count_from decode h n (drop n codes) ≡ refusal 4 (n + 1)
+  count_none n a p d m e = turn n d m ∙ rw e
 
--- what the code learns of the unit at a place
-module _ (h : Header) (s : List ℕ) (at w : ℕ) (decoded : DecodedLetter) (l : at + 1 < length s) (e : w ≡ get_or s at 0 * 256 + get_or s (at + 1) 0)
-    (d : letter_answer decoded ≡ decode_letter first_edition h w) where
-  pub unit_decoded : letter_answer decoded ≡ letter_in first_edition h (take 2 (drop at s))
-  unit_decoded = rw (unit_at s at l, ← e) d
-
-  pub unit_good : (x : Letter) → decoded ≡ decoded_letter.Letter x → letter_in first_edition h (take 2 (drop at s)) ≡ value x
-  unit_good x g = sym unit_decoded ∙ ap letter_answer g
-
-  pub unit_bad : decoded ≡ decoded_letter.Malformed → letter_in first_edition h (take 2 (drop at s)) ≡ refusal 4 0
-  unit_bad g = sym unit_decoded ∙ ap letter_answer g
+  pub count_ends : (n : ℕ) (r : Answer (Header × ℕ)) → count_from decode h n (drop n codes) ≡ r → n ≤ length codes → length codes ≤ n
+      → value (h, length codes) ≡ r
+  unfolding count_from
+  count_ends n r e a b = let m : n ≡ length codes = omega arith in (rw (← m, drop_of_length-le codes b)) ∙ e
 
 -- ---- the questions before the letters
 
@@ -97,22 +92,23 @@ unfolding beginning
 begins_long s h = by_test (ltb (length s) 2) (λ t. rw t λ q. let z : ◌≡◌ {A = ℕ} 0 1 = cc in absurd (omega arith)) λ t q. ltb-false (length s) 2 t
 
 -- what is learnt of a trace's beginning
-module _ (too_many : ℕ → Bool) (s : List ℕ) (begun : HeaderRead) (e : beginning_answer begun ≡ beginning first_edition s) where
-  pub begun_refused : (number : ℕ) → begun ≡ begun_as.Refused number → refusal number 0 ≡ counted (reading_where too_many first_edition s)
+module _ (too_many : ℕ → Bool) (s : List ℕ) where
+  pub begun_refused : (number place : ℕ) → refusal number place ≡ beginning first_edition s
+      → refusal number place ≡ counted (reading_where too_many first_edition s)
   unfolding reading_where
-  begun_refused number g = rw (← e, g)
+  begun_refused number place e = rw (← e)
 
-  module _ (h : Header) (g : begun ≡ begun_as.Header h) where
+  module _ (h : Header) (e : value h ≡ beginning first_edition s) where
     pub begun_long : 2 ≤ length s
-    begun_long = begins_long s h (sym e ∙ ap beginning_answer g)
+    begun_long = begins_long s h (sym e)
 
     pub begun_over : too_many (letter_count first_edition s) ≡ true → refusal 5 0 ≡ counted (reading_where too_many first_edition s)
     unfolding reading_where
-    begun_over t = rw (← e, g, t)
+    begun_over t = rw (← e, t)
 
     pub begun_letters : too_many (letter_count first_edition s) ≡ false → counted (letters_of first_edition h s) ≡ counted (reading_where too_many first_edition s)
     unfolding reading_where
-    begun_letters t = rw (← e, g, t)
+    begun_letters t = rw (← e, t)
 
 pub same_limit : (f g : ℕ → Bool) (s : List ℕ) → f (letter_count first_edition s) ≡ g (letter_count first_edition s)
     → reading_where f first_edition s ≡ reading_where g first_edition s
@@ -120,20 +116,111 @@ unfolding reading_where
 same_limit f g s e = ap (λ (t : Bool). on_answer (beginning first_edition s)
     (λ h. pick t (λ _. TraceReading.refused 5 0) λ _. letters_of first_edition h s) TraceReading.refused) e
 
--- ---- five bytes at a place
+-- ---- the pieces of a slice
 
-module _ (h : Header) (s : List ℕ) (at : ℕ) where
-  pub five_short : length s - at < 5 → refusal 4 0 ≡ unpack_letter h (take 5 (drop at s))
+-- the pieces of as_chunks are those of the definition
+pub chunked : (n k : ℕ) (s : List ℕ) → chunks n k s ≡ first_chunks n k s
+unfolding chunks
+chunked n zero s = refl
+chunked n (suc k) s = ap (λ (l : List (List ℕ)). take n s ∷ l) (chunked n k (drop n s))
+
+-- the piece at a place
+pub piece_at : (n k i : ℕ) (s d : List ℕ) → i < k → get_or (first_chunks n k s) i d ≡ take n (drop (n * i) s)
+piece_at n zero i s d l = absurd (omega arith)
+piece_at n (suc k) zero s d l = rw mul-zero refl
+piece_at n (suc k) (suc i) s d l = piece_at n k i (drop n s) d (omega arith) ∙ rw (mul-suc n i, drop-drop (n * i) n s, add_comm n (n * i))
+
+-- each has n entries
+piece_length : (n k i : ℕ) (s d : List ℕ) → i < k → n * k ≤ length s → length (get_or (first_chunks n k s) i d) ≡ n
+piece_length n zero i s d l m = absurd (omega arith)
+piece_length n (suc k) zero s d l m = let b : n ≤ length s = omega (arith, mul-suc n k) in length-take n s ∙ omega arith
+piece_length n (suc k) (suc i) s d l m = piece_length n k i (drop n s) d (omega arith) (omega (arith, length-drop n s, mul-suc n k))
+
+pub pieces_length : (n k : ℕ) (s : List ℕ) → length (first_chunks n k s) ≡ k
+pieces_length n zero s = refl
+pieces_length n (suc k) s = ap suc (pieces_length n k (drop n s))
+
+pub piece_of : (n i : ℕ) (s : List ℕ) (pieces : List (List ℕ)) (d : List ℕ) → pieces ≡ first_chunks n (length s / n) s → n * (length s / n) ≤ length s
+    → i < length pieces → length (get_or pieces i d) ≡ n
+piece_of n i s pieces d e m l = rw e (piece_length n (length s / n) i s d (omega (arith, ap length e, pieces_length n (length s / n) s)) m)
+
+-- the units behind the header, as the code has them
+pub units_chunked : (s : List ℕ) (pieces : List (List ℕ)) → 2 ≤ length s → (let rest = take (length s - 2) (drop 2 s) in
+    pieces ≡ first_chunks 2 (length rest / 2) rest) → chunks 2 (length s / 2 - 1) (drop 2 s) ≡ pieces
+units_chunked s pieces l e =
+    let all : take (length s - 2) (drop 2 s) ≡ drop 2 s = take_all (length s - 2) (drop 2 s) (omega (arith, length-drop 2 s)) in
+    let m : length (drop 2 s) / 2 ≡ length s / 2 - 1 = rw (length-drop 2 s) (omega arith) in
+    rw (chunked 2 (length s / 2 - 1) (drop 2 s), e, all, m)
+
+pub letters_chunked : (h : Header) (s : List ℕ) (pieces : List (List ℕ)) → 2 ≤ length s → (let rest = take (length s - 2) (drop 2 s) in
+    pieces ≡ first_chunks 2 (length rest / 2) rest) → letters_of first_edition h s ≡ letters_from (letter_in first_edition h) h 1 pieces
+unfolding letters_of
+letters_chunked h s pieces l e = rw (units_chunked s pieces l e)
+
+-- a unit's word
+pub unit_word : (s : List ℕ) → length s ≡ 2 → join (8 ∷ 8 ∷ []) s ≡ get_or s 0 0 * 256 + get_or s 1 0
+unit_word [] l = absurd (omega arith)
+unit_word (x ∷ []) l = absurd (omega arith)
+unit_word (x ∷ y ∷ []) l = omega arith
+unit_word (x ∷ y ∷ z ∷ s) l = absurd (omega arith)
+
+-- what the code learns of a unit
+pub unit_read : (h : Header) (x : List ℕ) (w : ℕ) (read : Answer Letter) → length x ≡ 2 → w ≡ get_or x 0 0 * 256 + get_or x 1 0
+    → read ≡ decode_letter first_edition h w → read ≡ letter_in first_edition h x
+unit_read h x w read l e d = rw (unit_word x l, ← e) d
+
+-- ---- unpacked letters, five bytes each
+
+pub parts_count : (s : List ℕ) → length (unpacked_parts s) ≡ (length s + 4) / 5
+unfolding unpacked_parts
+parts_count s = ap length (chunked 5 ((length s + 4) / 5) s) ∙ pieces_length 5 ((length s + 4) / 5) s
+
+pub part_at : (s : List ℕ) (i : ℕ) (d : List ℕ) → i < (length s + 4) / 5 → get_or (unpacked_parts s) i d ≡ take 5 (drop (5 * i) s)
+unfolding unpacked_parts
+part_at s i d l = rw (chunked 5 ((length s + 4) / 5) s) (piece_at 5 ((length s + 4) / 5) i s d l)
+
+module _ (s : List ℕ) (pieces : List (List ℕ)) (e : pieces ≡ first_chunks 5 (length s / 5) s) where
+  pub whole_count : length pieces ≡ length s / 5
+  whole_count = ap length e ∙ pieces_length 5 (length s / 5) s
+
+  -- a whole part
+  pub same_part : (i : ℕ) (d d' : List ℕ) → i < length pieces → get_or pieces i d ≡ get_or (unpacked_parts s) i d'
+  same_part i d d' l =
+      let m : i < length s / 5 = omega (arith, whole_count) in
+      rw e (piece_at 5 (length s / 5) i s d m) ∙ sym (part_at s i d' (omega arith))
+
+  -- the last part, if it is not whole
+  pub last_part : (h : Header) (d : List ℕ) → (length s % 5 ≡ 0 → ⊥) → unpack_letter h (get_or (unpacked_parts s) (length pieces) d) ≡ refusal 4 0
   unfolding unpack_letter
-  five_short l = rw (ne_eqb (length (take 5 (drop at s))) 5 (simp (length-take, length-drop) λ q. omega arith))
+  last_part h d n =
+      let p : get_or (unpacked_parts s) (length pieces) d ≡ take 5 (drop (5 * (length s / 5)) s) =
+      rw whole_count (part_at s (length s / 5) d (omega arith)) in
+      let l : length (take 5 (drop (5 * (length s / 5)) s)) ≡ length s % 5 =
+      length-take 5 (drop (5 * (length s / 5)) s) ∙ rw (length-drop (5 * (length s / 5)) s) (omega arith) in
+      rw (p, ne_eqb (length (take 5 (drop (5 * (length s / 5)) s))) 5 λ q. omega (arith, l))
 
-  part_at : (i : ℕ) → i < 5 → get_or (take 5 (drop at s)) i 0 ≡ get_or s (at + i) 0
-  part_at i l = get_or-take 5 (drop at s) i 0 l ∙ get_or-drop at s i 0
+-- the letter with five bytes
+pub five_bytes : (h : Header) (s : List ℕ) → length s ≡ 5
+    → unpack_letter h s ≡ plain_letter h (get_or s 0 0) (get_or s 1 0) (get_or s 2 0) (get_or s 3 0) (get_or s 4 0)
+unfolding unpack_letter
+five_bytes h s l = rw (eq-eqb (length s) 5 l)
 
-  pub five_at : at + 5 ≤ length s
-      → plain_letter h (get_or s at 0) (get_or s (at + 1) 0) (get_or s (at + 2) 0) (get_or s (at + 3) 0) (get_or s (at + 4) 0) ≡ unpack_letter h (take 5 (drop at s))
-  unfolding unpack_letter
-  five_at l =
-      let n : length (take 5 (drop at s)) ≡ 5 = simp (length-take, length-drop) (omega arith) in
-      let z : get_or (take 5 (drop at s)) 0 0 ≡ get_or s at 0 = part_at 0 (omega arith) ∙ ap (λ i. get_or s i 0) (add-zero at) in
-      rw (eq-eqb (length (take 5 (drop at s))) 5 n, z, part_at 1 (omega arith), part_at 2 (omega arith), part_at 3 (omega arith), part_at 4 (omega arith))
+-- ---- one letter of a trace
+
+module _ (h : Header) (s : List ℕ) (k : ℕ) where
+  pub no_letter : length s / 2 ≤ k + 1 → refusal 4 0 ≡ letter_at first_edition h s k
+  unfolding letter_at
+  no_letter l = rw (lt-leb (2 * (k + 2)) (length s) (omega arith))
+
+  pub the_letter : (units : List (List ℕ)) (x y : List ℕ) (rest : List (List ℕ)) → units ≡ first_chunks 2 (length s / 2) s → units ≡ x ∷ rest
+      → k < length rest → y ≡ get_or rest k y → (w : ℕ) (read : Option Letter) → w ≡ get_or y 0 0 * 256 + get_or y 1 0
+      → letter_answer read ≡ decode_letter first_edition h w → letter_answer read ≡ letter_at first_edition h s k
+  unfolding letter_at
+  the_letter units x y rest e f l g w read v d =
+      let n : length units ≡ length s / 2 = ap length e ∙ pieces_length 2 (length s / 2) s in
+      let m : suc (length rest) ≡ length units = sym (ap length f) in
+      let u : y ≡ take 2 (drop (2 * suc k) s) =
+      g ∙ ap (λ (l : List (List ℕ)). get_or l (suc k) y) (sym f ∙ e) ∙ piece_at 2 (length s / 2) (suc k) s y (omega arith) in
+      let two : length y ≡ 2 = ap length u ∙ length-take 2 (drop (2 * suc k) s) ∙ rw (length-drop (2 * suc k) s) (omega arith) in
+      let q : suc k ≡ k + 1 = omega arith in
+      rw (le-leb (2 * (k + 2)) (length s) (omega arith), ← q, ← u) (unit_read h y w (letter_answer read) two v d)

@@ -1,14 +1,17 @@
 -- The writer's loops and its answer.
 use mathlib.Core.Path.{◌≡◌, refl, sym, ap, ◌∙◌, subst}
-use Prim.Native.Nat.{ℕ, suc, ◌+◌, ◌-◌, ◌*◌, ◌/◌, ◌%◌, ◌≤◌, ◌<◌}
+use Prim.Native.Nat.{ℕ, ◌+◌, ◌*◌, ◌/◌, ◌%◌, ◌≤◌, ◌<◌}
 use native.Mathlib.Omega.{arith}
-use native.Mathlib.Nat.{zero-add, sub-zero}
+use native.Mathlib.Nat.{zero-add}
 use native.Mathlib.Numerals.{add-one, add-two}
 use mathlib.Core.Bool.{true}
 use mathlib.Core.List.{List, [], ◌∷◌, ◌++◌, map}
-use lib.ListN.{length, take, drop, set, length-map, length-set}
-use lib.Seq.{drop-drop, sets, sets-eq}
-use borrow.Author.Tests.{le-leb, lt-leb}
+use lib.ListN.{length, get_or, drop, set, length-map, length-set, drop_of_length-le}
+use lib.Seq.{drop-cons, sets, sets-eq}
+use borrow.Author.Tests.{le-leb, lt-leb, eqb-true, eqb-false}
+use lib.Dec.{eqb}
+use Rattle.std.specs.Simd.{first_chunks}
+use Rattle.traces.proofs.Counting.{whole_count, parts_count, last_part}
 use Rattle.base.proofs.Theory.Choice.{by_test}
 use Rattle.letters.specs.declared.Header.{Header}
 use Rattle.letters.specs.declared.Letter.{Letter}
@@ -26,20 +29,11 @@ use Rattle.traces.specs.Traces.{units, bytes_of, packing}
 use Rattle.traces.proofs.Theory.Units.{unit_bytes, header_word_below, letter_word_below}
 use Rattle.traces.proofs.Theory.TraceLaws.{Decoded, letters_decoded, decoded_length, parts_length, bytes_length}
 use Rattle.traces.specs.Writing.{unpack_letter, unpacked_parts, unpacking, written_length, written_over, WroteTrace}
-use Rattle.traces.proofs.Theory.WritingLaws.{unpack-letter, unpack_whole}
+use Rattle.traces.proofs.Theory.WritingLaws.{unpack-letter}
 use Rattle.letters.specs.Putting.{put_word}
 use Rattle.traces.specs.Putting.{word_in, put_each, put_words}
 
 -- ---- one letter
-
-pub word_whole : (h : Header) (s : List ℕ) (at w : ℕ) → word_in first_edition h (take 5 (drop at s)) ≡ value w → at + 5 ≤ length s
-unfolding word_in
-word_whole h s at w q = by (unpack_letter h (take 5 (drop at s))) refl q
-  where
-    by : (a : Answer Letter) → unpack_letter h (take 5 (drop at s)) ≡ a → on_answer a (encode_letter first_edition h) (λ _ _. refusal 4 0) ≡ value w
-        → at + 5 ≤ length s
-    by (value l) e q = unpack_whole h s at l e
-    by (refusal a b) e q = let z : ◌≡◌ {A = ℕ} 0 1 = cc in absurd (omega arith)
 
 -- the word of a letter that is well formed
 word-in : (h : Header) (x : List ℕ) (l : Letter) → HeaderFits first_edition h → unpack_letter h x ≡ value l
@@ -47,30 +41,43 @@ word-in : (h : Header) (x : List ℕ) (l : Letter) → HeaderFits first_edition 
 unfolding word_in encode_letter
 word-in h x l v q = rw (q, (header-test first_edition h).1 v, (fits-test h l).1 ((unpack-letter h x l).0 q).1)
 
--- ---- the loop over the parts of s, k in all, b bytes each, of which m are done and the next starts at `at`
+-- ---- the loop over these codes, of which i are done
 
-module _ {B : Type 0} (put : List ℕ → ℕ → B → List ℕ) (n b : ℕ) (decode : List ℕ → Answer B) (k : ℕ) (s : List ℕ) where
-  pub put_begins : (at to : ℕ) (out : List ℕ)
-      → put_each put n decode out to (chunks b (k - 0) (drop at s)) ≡ put_each put n decode out to (chunks b k (drop at s))
-  put_begins at to out = rw sub-zero
+module _ {A B : Type 0} (put : List ℕ → ℕ → B → List ℕ) (n : ℕ) (decode : A → Answer B) (codes : List A) where
+  turn : (i to : ℕ) (d : A) (out : List ℕ) → i < length codes
+      → put_each put n decode out to (drop i codes)
+      ≡ on_answer (decode (get_or codes i d)) (λ x. put_each put n decode (put out to x) (to + n) (drop (i + 1) codes)) λ _ _. out
+  unfolding put_each
+  turn i to d out l = rw (drop-cons codes i d l, add-one i)
 
-  turn : (m next at to : ℕ) (out : List ℕ) → m < k → next ≡ m + 1
-      → put_each put n decode out to (chunks b (k - m) (drop at s))
-      ≡ on_answer (decode (take b (drop at s))) (λ x. put_each put n decode (put out to x) (to + n) (chunks b (k - next) (drop (at + b) s))) λ _ _. out
-  unfolding put_each chunks
-  turn m next at to out l e = let g : k - m ≡ suc (k - next) = omega arith in rw (g, ← drop-drop b at s)
+  pub put_same : (others : List A) (out : List ℕ) (to : ℕ) → codes ≡ others → put_each put n decode out to codes ≡ put_each put n decode out to others
+  put_same others out to e = ap (λ c. put_each put n decode out to c) e
 
-  pub put_good : (m next at to : ℕ) (x : B) (out after : List ℕ) → m < k → next ≡ m + 1 → decode (take b (drop at s)) ≡ value x → after ≡ put out to x
-      → put_each put n decode out to (chunks b (k - m) (drop at s)) ≡ put_each put n decode after (to + n) (chunks b (k - next) (drop (at + b) s))
-  put_good m next at to x out after l e q p = turn m next at to out l e ∙ rw (q, p)
+  pub put_good : (i to next : ℕ) (d : A) (x : B) (out after r : List ℕ) → put_each put n decode out to (drop i codes) ≡ r → i < length codes
+      → value x ≡ decode (get_or codes i d) → after ≡ put out to x → next ≡ to + n → put_each put n decode after next (drop (i + 1) codes) ≡ r
+  put_good i to next d x out after r e l q p m = rw (p, m) (sym (turn i to d out l ∙ rw (← q)) ∙ e)
 
-  pub put_bad : (m at to a p : ℕ) (out : List ℕ) → m < k → decode (take b (drop at s)) ≡ refusal a p
-      → put_each put n decode out to (chunks b (k - m) (drop at s)) ≡ out
-  put_bad m at to a p out l q = turn m (m + 1) at to out l refl ∙ rw q
+  pub put_bad : (i to a p : ℕ) (d : A) (out r : List ℕ) → put_each put n decode out to (drop i codes) ≡ r → i < length codes
+      → refusal a p ≡ decode (get_or codes i d) → out ≡ r
+  put_bad i to a p d out r e l q = sym (turn i to d out l ∙ rw (← q)) ∙ e
 
-  pub put_ends : (m at to : ℕ) (out : List ℕ) → k ≤ m → put_each put n decode out to (chunks b (k - m) (drop at s)) ≡ out
-  unfolding put_each chunks
-  put_ends m at to out l = let e : k - m ≡ 0 = omega arith in rw e
+  pub put_ends : (i to : ℕ) (out r : List ℕ) → put_each put n decode out to (drop i codes) ≡ r → length codes ≤ i → out ≡ r
+  unfolding put_each
+  put_ends i to out r e l = sym (ap (λ c. put_each put n decode out to c) (drop_of_length-le codes l)) ∙ e
+
+-- when every whole part has been put, what is left of the bytes is no letter
+pub put_rest : (s : List ℕ) (pieces : List (List ℕ)) → pieces ≡ first_chunks 5 (length s / 5) s → (h : Header) (i to : ℕ) (out r : List ℕ) → i ≡ length pieces
+    → put_words (word_in first_edition h) out to (drop i (unpacked_parts s)) ≡ r → out ≡ r
+unfolding word_in
+put_rest s pieces front h i to out r here e =
+    let whole = whole_count s pieces front in
+    let parts = parts_count s in
+    by_test (eqb (length s % 5) 0)
+    (λ t. let none = eqb-true (length s % 5) 0 t in
+    put_ends put_word 2 (word_in first_edition h) (unpacked_parts s) i to out r e (omega arith))
+    (λ t. let some = eqb-false (length s % 5) 0 t in
+    put_bad put_word 2 (word_in first_edition h) (unpacked_parts s) i to 4 0 [] out r e (omega (arith, some))
+    (rw (here, last_part s pieces front h [] some)))
 
 -- ---- what all the turns leave
 

@@ -1,12 +1,14 @@
 -- The unpacker's loop and its answer.
-use mathlib.Core.Path.{◌≡◌, refl, ap, ◌∙◌}
+use mathlib.Core.Path.{◌≡◌, refl, sym, ap, ◌∙◌}
 use Prim.Native.Nat.{ℕ, ◌+◌, ◌-◌, ◌*◌, ◌/◌, ◌≤◌, ◌<◌}
 use native.Mathlib.Omega.{arith}
 use native.Mathlib.Nat.{zero-add}
-use native.Mathlib.Numerals.{add-one, add-two, add-three, add-four, add_five}
+use native.Mathlib.Numerals.{add_five}
 use mathlib.Core.List.{List, [], ◌∷◌, ◌++◌}
-use lib.ListN.{length, get_or, drop, set}
-use lib.Seq.{sets, sets-eq}
+use lib.ListN.{length, drop}
+use lib.Seq.{drop-drop, sets, sets-eq}
+use borrow.Rule.Slice.PartMut.{put_mid}
+use Rattle.std.proofs.Common.{append_assoc, take}
 use borrow.Author.Tests.{le-leb, lt-leb}
 use Rattle.letters.specs.declared.Header.{Header}
 use Rattle.letters.specs.declared.Letter.{Letter}
@@ -18,18 +20,18 @@ use Rattle.traces.specs.Reading.{trace, chunks, letter_count, letter_in, reading
 use Rattle.traces.specs.ReadingParts.{counted}
 use Rattle.traces.proofs.Theory.TraceLaws.{Decoded, Read, read, read_count}
 use Rattle.traces.specs.Writing.{plain_fields, unpacked_bytes}
-use Rattle.traces.proofs.Theory.WritingLaws.{five, plain_length, unpacked_length}
+use Rattle.traces.proofs.Theory.WritingLaws.{unpacked_length}
 use Rattle.traces.specs.Unpacking.{put_plain, put_unpacked, unpacked_count, unpacked_over, Unpacked}
 use Rattle.traces.specs.Putting.{put_each}
 use Rattle.traces.proofs.Putting.{counted_trace, counted_refused}
 
 -- ---- one letter
 
--- five stores are those of the list
-pub five_stores : (out s t : List ℕ) (to : ℕ) → s ≡ t → length t ≡ 5
-    → set (set (set (set (set out to (get_or s 0 0)) (to + 1) (get_or s 1 0)) (to + 2) (get_or s 2 0)) (to + 3) (get_or s 3 0)) (to + 4) (get_or s 4 0)
-    ≡ sets out to t
-five_stores out s t to e l = rw (e, add-one to, add-two to, add-three to, add-four to) (ap (sets out to) (five t l))
+-- a part of so many entries, replaced by these
+pub part_sets : (a k : ℕ) (out fields : List ℕ) → k ≡ length fields → a + k ≤ length out → put_mid a k out fields ≡ sets out a fields
+part_sets a k out fields e l =
+    sym (sets-eq fields out a (omega arith) ∙ append_assoc (take a out) fields (drop (a + length fields) out)
+    ∙ rw (← e, ← drop-drop k a out))
 
 -- the stores of a letter, and then of what follows
 plain_stores : (h : Header) (l : Letter) (out : List ℕ) (to : ℕ) (rest : List ℕ)

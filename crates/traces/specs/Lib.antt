@@ -1,4 +1,3 @@
-pub mod Answers
 pub mod Traces
 pub mod Writing
 pub mod Unpacking

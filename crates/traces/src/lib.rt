@@ -1,19 +1,17 @@
-// Whole traces: the reader (SPEC 2.6, 11.2), and the types of what reading and writing answer.
+// Whole traces: the reader (SPEC 2.6, 11.2).
 #![tactic(auto)]
 
 ghost use Rattle.std.specs.Prelude.{◌≡◌, ◌≤◌, length};
 ghost use Rattle.letters.specs.Editions.{first_edition};
 ghost use Rattle.letters.specs.CodeAnswers.{letter_answer};
-ghost use Rattle.traces.specs.Answers.{beginning_answer, trace_answer};
+ghost use Rattle.letters.specs.Reasons.{as_answer};
 ghost use Rattle.traces.specs.Reading.{beginning, letters_of, reading};
 ghost use Rattle.traces.specs.ReadingParts.{reading_within, counted, letter_at};
 
 use letters::limits::UNIT_BYTES;
-use letters::refusal_numbers::{
-    HEADER_MALFORMED, LETTER_MALFORMED, TRACE_ODD_LENGTH, TRACE_TOO_LONG, TRACE_TOO_SHORT,
-};
+use letters::reasons::{Reason, Refused};
 use letters::words::{decode_header, decode_letter, word};
-use letters::{DecodedHeader, DecodedLetter, Header};
+use letters::{Header, Letter};
 
 /// The writer.
 pub mod writer;
@@ -24,104 +22,60 @@ pub mod unpacker;
 pub const UNPACKED_BYTES: usize = 5;
 
 // More letters than a trace can have.
-const NO_LIMIT: u64 = 18446744073709551615;
-
-/// How the reading of a trace's beginning went.
-#[derive(Clone, Copy)]
-pub enum HeaderRead {
-    /// The header that the trace begins with.
-    Header(Header),
-    /// The number of the refusal, whose place is 0.
-    Refused(u8),
-}
-
-/// How the reading of a trace went.
-#[derive(Clone, Copy)]
-pub enum TraceRead {
-    /// The trace's header and its number of letters.
-    Trace(Header, u64),
-    /// A refusal, its number and place.
-    Refused(u8, u64),
-}
-
-/// How the writing of a trace went.
-#[derive(Clone, Copy)]
-pub enum Written {
-    /// The number of bytes written.
-    Bytes(usize),
-    /// A refusal, its number and place.
-    Refused(u8, u64),
-}
+const NO_LIMIT: u64 = u64::MAX;
 
 /// Puts questions 1, 2 and 3 to the bytes of a trace.
-pub fn read_beginning(bytes: &[u8]) -> HeaderRead
-    ensures { beginning_answer result ≡ beginning first_edition bytes.now }
+pub fn read_beginning(bytes: &[u8]) -> Result<Header, Refused>
+    ensures { as_answer result ≡ beginning first_edition bytes.now }
 {
     if bytes.len() < UNIT_BYTES {
-        return HeaderRead::Refused(TRACE_TOO_SHORT);
+        return Err(Reason::TraceTooShort.at(0));
     }
     if bytes.len() % UNIT_BYTES != 0 {
-        return HeaderRead::Refused(TRACE_ODD_LENGTH);
+        return Err(Reason::TraceOddLength.at(0));
     }
-    let decoded = decode_header(word(bytes[0], bytes[1]));
-    let DecodedHeader::Header(header) = decoded else {
-        return HeaderRead::Refused(HEADER_MALFORMED);
-    };
-    HeaderRead::Header(header)
+    decode_header(word(bytes[0], bytes[1])).ok_or(Reason::HeaderMalformed.at(0))
 }
 
 // Reads the letters behind the header.
-fn read_letters(h: Header, bytes: &[u8]) -> TraceRead
+fn read_letters(h: Header, bytes: &[u8]) -> Result<(Header, u64), Refused>
     requires { first_edition.bytes ≤ length bytes.now }
-    ensures { trace_answer result ≡ counted (letters_of first_edition h bytes.now) }
+    ensures { as_answer result ≡ counted (letters_of first_edition h bytes.now) }
 {
-    let mut at: usize = UNIT_BYTES;
-    let mut n: u64 = 0;
-    while 1 < bytes.len() - at {
-        let decoded = decode_letter(h, word(bytes[at], bytes[at + 1]));
-        let DecodedLetter::Letter(letter) = decoded else {
-            return TraceRead::Refused(LETTER_MALFORMED, n + 1);
-        };
-        n = n + 1;
-        at = at + UNIT_BYTES;
+    let (letters, _) = bytes[UNIT_BYTES..].as_chunks::<UNIT_BYTES>();
+    for (i, &[high, low]) in letters.iter().enumerate() {
+        if decode_letter(h, word(high, low)).is_none() {
+            return Err(Reason::LetterMalformed.at(i as u64 + 1));
+        }
     }
-    TraceRead::Trace(h, n)
+    Ok((h, letters.len() as u64))
 }
 
 /// Reads a trace of at most `limit` letters: question 5 comes before the letters.
-pub fn read_trace_within(bytes: &[u8], limit: u64) -> TraceRead
-    ensures { trace_answer result ≡ counted (reading_within limit first_edition bytes.now) }
+pub fn read_trace_within(bytes: &[u8], limit: u64) -> Result<(Header, u64), Refused>
+    ensures { as_answer result ≡ counted (reading_within limit first_edition bytes.now) }
 {
-    let begun = read_beginning(bytes);
-    match begun {
-        HeaderRead::Header(header) => {
-            let letters = (bytes.len() / UNIT_BYTES - 1) as u64;
-            if limit < letters {
-                return TraceRead::Refused(TRACE_TOO_LONG, 0);
-            }
-            read_letters(header, bytes)
-        }
-        HeaderRead::Refused(number) => TraceRead::Refused(number, 0),
+    let header = read_beginning(bytes)?;
+    let letters = (bytes.len() / UNIT_BYTES - 1) as u64;
+    if limit < letters {
+        return Err(Reason::TraceTooLong.at(0));
     }
+    read_letters(header, bytes)
 }
 
 /// Reads a trace of any length.
-pub fn read_trace(bytes: &[u8]) -> TraceRead
-    ensures { trace_answer result ≡ counted (reading first_edition bytes.now) }
+pub fn read_trace(bytes: &[u8]) -> Result<(Header, u64), Refused>
+    ensures { as_answer result ≡ counted (reading first_edition bytes.now) }
 {
     read_trace_within(bytes, NO_LIMIT)
 }
 
 /// Letter k, from 0, of the bytes of a trace with header `h`.
-pub fn letter_at(h: Header, bytes: &[u8], k: usize) -> DecodedLetter
+pub fn letter_at(h: Header, bytes: &[u8], k: usize) -> Option<Letter>
     ensures { letter_answer result ≡ letter_at first_edition h bytes.now k }
 {
-    if bytes.len() / UNIT_BYTES <= k {
-        return DecodedLetter::Malformed;
-    }
-    let at = UNIT_BYTES * k + UNIT_BYTES;
-    if bytes.len() - at < UNIT_BYTES {
-        return DecodedLetter::Malformed;
-    }
-    decode_letter(h, word(bytes[at], bytes[at + 1]))
+    let (units, _) = bytes.as_chunks::<UNIT_BYTES>();
+    let (_, letters) = units.split_first()?;
+    let &[high, low] = letters.get(k)?;
+    decode_letter(h, word(high, low))
 }
