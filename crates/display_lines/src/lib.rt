@@ -23,7 +23,7 @@ use streaming::starting::start;
 use streaming::stepping::step;
 use text::{FIELDS, put_line};
 use tokens::BYTE_VALUES;
-use traces::{TraceRead, read_trace};
+use traces::read_trace;
 use unequal_flags::unequal_word;
 use window::{Window, class_count};
 
@@ -180,13 +180,13 @@ pub fn write_lines(trace: &[u8], lines: &mut [u8]) -> Displayed
     }
     let read = read_trace(trace);
     match read {
-        TraceRead::Trace(_, _) => Displayed::Written(put_trace_lines(lines, trace)),
-        TraceRead::Refused(number, place) => {
+        Ok(_) => Displayed::Written(put_trace_lines(lines, trace)),
+        Err(refused) => {
             Displayed::Written(put_line(
                 lines,
                 0,
                 b"refused 4 at 5\n",
-                [number as u64, place, 0, 0],
+                [u64::from(u8::from(refused.reason)), refused.place, 0, 0],
             ))
         }
     }

@@ -14,7 +14,7 @@ ghost use Rattle.engine.specs.Run.{Begun, BlankTerms, Began, RunningIn, RanTo, r
 
 use closure::{CHAINS, Index, Numbers, REGISTERS, TERMS, Terms, Tests};
 use letters::limits::{MOST_LETTERS, UNIT_BYTES};
-use letters::{DecodedLetter, Header, Letter, words};
+use letters::{Header, Letter, words};
 
 // What is known of the letters so far, beside the computed terms.
 #[derive(Drop)]
@@ -152,7 +152,7 @@ impl Progress {
     {
         for k in 0..letters {
             let decoded = traces::letter_at(header, trace, k);
-            let DecodedLetter::Letter(letter) = decoded else {
+            let Some(letter) = decoded else {
                 return EngineOutcome::Malformed(k as u64 + 1);
             };
             self.step(terms, letter);
@@ -184,7 +184,7 @@ pub fn first_malformed(header: Header, trace: &[u8], letters: usize, k: usize) -
     for i in k..letters {
         let at = UNIT_BYTES * i + UNIT_BYTES;
         let decoded = words::decode_letter(header, words::word(trace[at], trace[at + 1]));
-        let DecodedLetter::Letter(letter) = decoded else {
+        let Some(letter) = decoded else {
             return Some(i as u64 + 1);
         };
     }

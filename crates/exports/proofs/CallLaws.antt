@@ -9,12 +9,12 @@ use lib.ListN.{length, get_or, drop, set}
 use borrow.Author.Tests.{le-ltb, eq-eqb, ltb-false}
 use Rattle.base.specs.Choice.{pick}
 use Rattle.letters.specs.declared.Header.{Header}
-use Rattle.traces.specs.declared.TraceRead.{TraceRead}
-use Rattle.traces.specs.declared.TraceRead.TheVariants as trace_read
-use Rattle.traces.specs.declared.Written.{Written}
+use Rattle.std.specs.Prelude.{Result, Ok, Err}
+use Rattle.letters.specs.declared.reasons.Refused.{Refused}
+use Rattle.letters.specs.Reasons.{number_of}
 use Rattle.traces.specs.declared.Written.TheVariants as written
 use Rattle.letters.specs.Answers.{value, refusal}
-use Rattle.traces.specs.Answers.{trace_answer, written_answer}
+use Rattle.letters.specs.Reasons.{as_answer}
 use Rattle.letters.specs.Editions.{first_edition}
 use Rattle.letters.proofs.Theory.WordLaws.{first_roomy, decode_header_refused}
 use Rattle.traces.specs.Reading.{reading}
@@ -62,23 +62,23 @@ one_stored : (answer : List ℕ) (v : ℕ) → 1 ≤ length answer → set answe
 one_stored [] v l = absurd (omega arith)
 one_stored (x ∷ answer) v l = refl
 
-pub numbers_written : (w : Written) (n : ℕ) → w ≡ written.Bytes n → 0 ∷ 0 ∷ n ∷ [] ≡ written_numbers (written_answer w)
+pub numbers_written : (w : Result ℕ Refused) (n : ℕ) → w ≡ Ok n → 0 ∷ 0 ∷ n ∷ [] ≡ written_numbers (as_answer w)
 unfolding written_numbers
 numbers_written w n e = rw e
 
-pub numbers_unwritten : (w : Written) (number place : ℕ) → w ≡ written.Refused number place → number ∷ place ∷ 0 ∷ [] ≡ written_numbers (written_answer w)
+pub numbers_unwritten : (w : Result ℕ Refused) (f : Refused) → w ≡ Err f → number_of f.reason ∷ f.place ∷ 0 ∷ [] ≡ written_numbers (as_answer w)
 unfolding written_numbers
-numbers_unwritten w number place e = rw e
+numbers_unwritten w f e = rw e
 
-pub numbers_read : (r : TraceRead) (h : Header) (n : ℕ) → r ≡ trace_read.Trace h n
-    → 0 ∷ 0 ∷ h.registers ∷ h.functions ∷ h.binary ∷ n ∷ [] ≡ read_numbers (trace_answer r)
+pub numbers_read : (r : Result (Header × ℕ) Refused) (h : Header) (n : ℕ) → r ≡ Ok (h, n)
+    → 0 ∷ 0 ∷ h.registers ∷ h.functions ∷ h.binary ∷ n ∷ [] ≡ read_numbers (as_answer r)
 unfolding read_numbers
 numbers_read r h n e = rw e
 
-pub numbers_unread : (r : TraceRead) (number place : ℕ) → r ≡ trace_read.Refused number place
-    → number ∷ place ∷ 0 ∷ 0 ∷ 0 ∷ 0 ∷ [] ≡ read_numbers (trace_answer r)
+pub numbers_unread : (r : Result (Header × ℕ) Refused) (f : Refused) → r ≡ Err f
+    → number_of f.reason ∷ f.place ∷ 0 ∷ 0 ∷ 0 ∷ 0 ∷ [] ≡ read_numbers (as_answer r)
 unfolding read_numbers
-numbers_unread r number place e = rw e
+numbers_unread r f e = rw e
 
 -- ---- traces
 
@@ -86,8 +86,8 @@ module _ (h : Header) (fields out answer : List ℕ) where
   pub writes_short : length answer < 3 → Writes h fields out answer out answer
   writes_short s = record { short = λ _. (refl, refl); written = λ room. absurd (too_short s room) }
 
-  pub writes_stored : (out' stored answer' : List ℕ) (w : Written) → WroteTrace first_edition (unpacking first_edition h fields) out out' (written_answer w)
-      → stored ≡ written_numbers (written_answer w) → length stored ≡ 3 → 3 ≤ length answer → answer' ≡ stored ++ drop (length stored) answer
+  pub writes_stored : (out' stored answer' : List ℕ) (w : Result ℕ Refused) → WroteTrace first_edition (unpacking first_edition h fields) out out' (as_answer w)
+      → stored ≡ written_numbers (as_answer w) → length stored ≡ 3 → 3 ≤ length answer → answer' ≡ stored ++ drop (length stored) answer
       → Writes h fields out answer out' answer'
   writes_stored out' stored answer' w d same full room e = record {
     short = λ s. absurd (too_short s room);
@@ -98,8 +98,8 @@ module _ (trace out answer : List ℕ) where
   pub reads_short : length answer < 6 → ReadsTrace trace out answer out answer
   reads_short s = record { short = λ _. (refl, refl); read = λ room. absurd (too_short s room) }
 
-  pub reads_stored : (out' stored answer' : List ℕ) (r : TraceRead) → Unpacked (reading first_edition trace) out out' (trace_answer r)
-      → stored ≡ read_numbers (trace_answer r) → length stored ≡ 6 → 6 ≤ length answer → answer' ≡ stored ++ drop (length stored) answer
+  pub reads_stored : (out' stored answer' : List ℕ) (r : Result (Header × ℕ) Refused) → Unpacked (reading first_edition trace) out out' (as_answer r)
+      → stored ≡ read_numbers (as_answer r) → length stored ≡ 6 → 6 ≤ length answer → answer' ≡ stored ++ drop (length stored) answer
       → ReadsTrace trace out answer out' answer'
   reads_stored out' stored answer' r d same full room e = record {
     short = λ s. absurd (too_short s room);

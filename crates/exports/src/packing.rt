@@ -1,11 +1,11 @@
 // Traces for Rust and C: written from unpacked letters, and read into them.
 ghost use Rattle.std.specs.Prelude.{◌≡◌};
-ghost use Rattle.traces.specs.Answers.{trace_answer, written_answer};
+ghost use Rattle.letters.specs.Reasons.{as_answer};
 ghost use Rattle.exports.specs.TraceCalls.{written_numbers, read_numbers, WritesWith, ReadsTrace};
 
 use super::store;
 use letters::Header;
-use traces::{TraceRead, Written};
+use letters::reasons::Refused;
 
 // How many numbers a call answers.
 const WRITTEN_NUMBERS: usize = 3;
@@ -13,12 +13,12 @@ const WRITTEN_NUMBERS: usize = 3;
 const READ_NUMBERS: usize = 6;
 
 // The numbers of what writing a trace gives.
-fn written_numbers(written: Written) -> [u64; WRITTEN_NUMBERS]
-    ensures { result ≡ written_numbers (written_answer written) }
+fn written_numbers(written: Result<usize, Refused>) -> [u64; WRITTEN_NUMBERS]
+    ensures { result ≡ written_numbers (as_answer written) }
 {
     match written {
-        Written::Bytes(n) => [0, 0, n as u64],
-        Written::Refused(number, place) => [number as u64, place, 0],
+        Ok(n) => [0, 0, n as u64],
+        Err(refused) => [u64::from(u8::from(refused.reason)), refused.place, 0],
     }
 }
 
@@ -50,11 +50,11 @@ pub extern "C" fn fadzgime_write(
 }
 
 // The numbers of what reading a trace gives.
-fn read_numbers(read: TraceRead) -> [u64; READ_NUMBERS]
-    ensures { result ≡ read_numbers (trace_answer read) }
+fn read_numbers(read: Result<(Header, u64), Refused>) -> [u64; READ_NUMBERS]
+    ensures { result ≡ read_numbers (as_answer read) }
 {
     match read {
-        TraceRead::Trace(h, n) => [
+        Ok((h, n)) => [
             0,
             0,
             h.registers as u64,
@@ -62,7 +62,7 @@ fn read_numbers(read: TraceRead) -> [u64; READ_NUMBERS]
             h.binary as u64,
             n,
         ],
-        TraceRead::Refused(number, place) => [number as u64, place, 0, 0, 0, 0],
+        Err(refused) => [u64::from(u8::from(refused.reason)), refused.place, 0, 0, 0, 0],
     }
 }
 

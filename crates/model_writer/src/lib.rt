@@ -18,7 +18,6 @@ use engine::EngineOutcome;
 use letters::limits::{MOST_LETTERS, UNIT_BYTES};
 use letters::refusal_numbers::{LETTER_MALFORMED, OUTPUT_TOO_SMALL, TRACE_TOO_LONG};
 use letters::{Header, words};
-use traces::HeaderRead;
 
 // The bytes of a row, and of the other numbers of a model.
 const ROW_BYTES: usize = 5;
@@ -254,8 +253,8 @@ pub fn show(trace: &[u8], out: &mut [u8]) -> Shown
 {
     let begun = traces::read_beginning(trace);
     match begun {
-        HeaderRead::Refused(number) => Shown::Refused(number, 0),
-        HeaderRead::Header(header) => {
+        Err(refused) => Shown::Refused(u8::from(refused.reason), refused.place),
+        Ok(header) => {
             let letters = trace.len() / UNIT_BYTES - 1;
             if MOST_LETTERS < letters {
                 return Shown::Refused(TRACE_TOO_LONG, 0);

@@ -4,7 +4,7 @@ ghost use Rattle.report.specs.Shown.{letter_or_copy};
 ghost use Rattle.report.specs.Shown.{word_at, row_in, word_values};
 
 use super::WORD_VALUES;
-use letters::{DecodedLetter, Header, Letter};
+use letters::{Header, Letter};
 use traces::letter_at;
 
 /// The bytes of a word.
@@ -51,12 +51,8 @@ pub fn row_at(bytes: &[u8], at: usize) -> u64
 pub fn letter_of(h: Header, bytes: &[u8], k: usize) -> Letter
     ensures { result ≡ letter_or_copy h bytes.now k }
 {
-    let decoded = letter_at(h, bytes, k);
-    let DecodedLetter::Letter(letter) = decoded else {
-        return Letter::Copy {
-            target: 0,
-            source: 0,
-        };
-    };
-    letter
+    letter_at(h, bytes, k).unwrap_or(Letter::Copy {
+        target: 0,
+        source: 0,
+    })
 }

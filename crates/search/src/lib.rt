@@ -19,7 +19,7 @@ use exploration::{POINTS, Search, letter_of, search_pairs};
 use letters::limits::{MOST_LETTERS, UNIT_BYTES};
 use letters::refusal_numbers::{OUTPUT_TOO_SMALL, TABLE_TOO_SMALL};
 use letters::words::{encode_header, encode_letter};
-use letters::{Encoded, Header, Letter};
+use letters::{Header, Letter};
 use model_writer::{Shown, show};
 use syntax::CompiledMacro;
 
@@ -46,30 +46,14 @@ pub struct Packed {
 fn letter_word(header: Header, letter: Letter) -> u16
     ensures { result ≡ word_or_zero (encode_letter first_edition header letter) }
 {
-    let coded = encode_letter(header, letter);
-    match coded {
-        Encoded::Word(word) => {
-            return word;
-        }
-        Encoded::Malformed => {
-            return 0;
-        }
-    }
+    encode_letter(header, letter).unwrap_or(0)
 }
 
 // The word of a header; 0 for one that is not well formed.
 fn header_word(header: Header) -> u16
     ensures { result ≡ word_or_zero (encode_header first_edition header) }
 {
-    let coded = encode_header(header);
-    match coded {
-        Encoded::Word(word) => {
-            return word;
-        }
-        Encoded::Malformed => {
-            return 0;
-        }
-    }
+    encode_header(header).unwrap_or(0)
 }
 
 // The trace of the execution that move number d ends, written from its end.

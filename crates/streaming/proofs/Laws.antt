@@ -1,4 +1,5 @@
 -- What the functions return, from what their calls ensure.
+use Rattle.std.specs.Prelude.{Option, Some, None}
 use mathlib.Core.Path.{◌≡◌, sym, ap, ◌∙◌, subst}
 use Prim.Native.Nat.{ℕ, suc, ◌+◌, ◌-◌, ◌*◌, ◌/◌, ◌≤◌, ◌<◌}
 use native.Mathlib.Omega.{arith}
@@ -8,10 +9,6 @@ use lib.ListN.{length, get_or, drop, drop_of_length-le}
 use lib.Seq.{drop-cons}
 use Rattle.letters.specs.declared.Header.{Header}
 use Rattle.letters.specs.declared.Letter.{Letter}
-use Rattle.letters.specs.declared.DecodedHeader.{DecodedHeader}
-use Rattle.letters.specs.declared.DecodedHeader.TheVariants as decoded_header
-use Rattle.letters.specs.declared.DecodedLetter.{DecodedLetter}
-use Rattle.letters.specs.declared.DecodedLetter.TheVariants as decoded_letter
 use Rattle.letters.specs.CodeAnswers.{header_answer, letter_answer}
 use Rattle.letters.specs.Editions.{first_edition}
 use Rattle.letters.specs.Coding.{decode_header, decode_letter}
@@ -35,27 +32,27 @@ use Rattle.streaming.specs.Demand2.{Demand2}
 use Rattle.streaming.proofs.Theory.StreamRight.{demand_met}
 use Rattle.streaming.specs.Stream.{judged_bytes, stream_with, pushed_in, pushed_of, finished_in, finished_of, pushed_all}
 
-module _ (word : ℕ) (d : DecodedHeader) (e : header_answer d ≡ decode_header first_edition word) where
-  pub start_refused : (m : Monitor) → d ≡ decoded_header.Malformed → m ≡ idle_of → stepped (outcome.Refused header_malformed) m ≡ start_of word
+module _ (word : ℕ) (d : Option Header) (e : header_answer d ≡ decode_header first_edition word) where
+  pub start_refused : (m : Monitor) → d ≡ None → m ≡ idle_of → stepped (outcome.Refused header_malformed) m ≡ start_of word
   unfolding start_of
   start_refused m g i = rw (← e, g, i)
 
-  pub start_taken : (h : Header) (w : Window) → d ≡ decoded_header.Header h → w ≡ fresh_of h.registers
+  pub start_taken : (h : Header) (w : Window) → d ≡ Some h → w ≡ fresh_of h.registers
       → stepped outcome.Taken (record { header = h; window = w; running = true }) ≡ start_of word
   unfolding start_of
   start_taken h w g f = rw (← e, g, f)
 
-module _ (m : Monitor) (word : ℕ) (d : DecodedLetter) (e : letter_answer d ≡ decode_letter first_edition m.header word) where
-  pub step_refused : d ≡ decoded_letter.Malformed → stepped (outcome.Refused letter_malformed) m ≡ advance m word
+module _ (m : Monitor) (word : ℕ) (d : Option Letter) (e : letter_answer d ≡ decode_letter first_edition m.header word) where
+  pub step_refused : d ≡ None → stepped (outcome.Refused letter_malformed) m ≡ advance m word
   unfolding advance
   step_refused g = rw (← e, g)
 
-  pub step_taken : (a : Letter) (next : Monitor) → d ≡ decoded_letter.Letter a → next ≡ moved_of m a → stepped outcome.Taken next ≡ advance m word
+  pub step_taken : (a : Letter) (next : Monitor) → d ≡ Some a → next ≡ moved_of m a → stepped outcome.Taken next ≡ advance m word
   unfolding advance
   step_taken a next g f = rw (← e, g, f)
 
   -- a letter that was decoded is within the packing
-  pub step_within : (a : Letter) → d ≡ decoded_letter.Letter a → WithinPacking a
+  pub step_within : (a : Letter) → d ≡ Some a → WithinPacking a
   step_within a g =
       let (h, f, _) = (decode-letter first_roomy m.header word a).0 (sym e ∙ ap letter_answer g) in
       fits_within m.header a h.registers h.functions f

@@ -1,4 +1,5 @@
 -- The loop over the words of a trace, two bytes a word, and the bytes around it.
+use Rattle.std.specs.Prelude.{Option, Some, None}
 use mathlib.Core.Path.{◌≡◌, refl, sym, ap, ap₂, ◌∙◌, subst}
 use mathlib.Core.Logic.{◌≢◌}
 use Prim.Native.Nat.{ℕ, suc, ◌+◌, ◌-◌, ◌*◌, ◌%◌, ◌≤◌, ◌<◌}
@@ -10,8 +11,6 @@ use lib.Dec.{T}
 use lib.Seq.{drop-cons, get_or-drop}
 use Rattle.letters.specs.declared.Header.{Header}
 use Rattle.letters.specs.declared.Letter.{Letter}
-use Rattle.letters.specs.declared.DecodedLetter.{DecodedLetter}
-use Rattle.letters.specs.declared.DecodedLetter.TheVariants as decoded_letter
 use Rattle.letters.specs.CodeAnswers.{letter_answer}
 use Rattle.letters.specs.Editions.{first_edition}
 use Rattle.letters.specs.Coding.{decode_letter}
@@ -40,10 +39,10 @@ moved_parts h w true true fine a w' e p q = rw (q, p, ← e)
 moved_parts h w true false fine a w' e p q = rw (q, p, ← e)
 moved_parts h w false j fine a w' e p q = rw (q, p)
 
-module _ (h : Header) (w : Window) (b : Bool) (n one two number word : ℕ) (d : DecodedLetter) (e : letter_answer d ≡ decode_letter first_edition h word)
+module _ (h : Header) (w : Window) (b : Bool) (n one two number word : ℕ) (d : Option Letter) (e : letter_answer d ≡ decode_letter first_edition h word)
     (c : number ≡ next_number n) where
   -- the run after a letter
-  run_letter : (a : Letter) (j fine : Bool) (w' : Window) (one' two' : ℕ) → d ≡ decoded_letter.Letter a → j ≡ judge_of w a → fine ≡ (b && j)
+  run_letter : (a : Letter) (j fine : Bool) (w' : Window) (one' two' : ℕ) → d ≡ Some a → j ≡ judge_of w a → fine ≡ (b && j)
       → w' ≡ performed_of w fine a → one' ≡ first_of one (not fine) number
       → two' ≡ first_of two w'.infeasible number → run_of h w' fine number (Judged one' two') ≡ taken_run (run_of h w b n (Judged one two)) word
   unfolding judged_run
@@ -54,7 +53,7 @@ module _ (h : Header) (w : Window) (b : Bool) (n one two number word : ℕ) (d :
       (step_taken m word d e a next g (moved_parts h w b j fine a w' p q r)) (run_of h w' fine number (Judged one' two')) refl (rw (s, t))
 
   -- the run that ends at a word that is no letter
-  run_malformed : d ≡ decoded_letter.Malformed → run_of h w b n (Refused letter_malformed number) ≡ taken_run (run_of h w b n (Judged one two)) word
+  run_malformed : d ≡ None → run_of h w b n (Refused letter_malformed number) ≡ taken_run (run_of h w b n (Judged one two)) word
   run_malformed g =
       let m : Monitor = record { header = h; window = w; running = b } in
       take_refused (run_of h w b n (Judged one two)) word one two refl number c (stepped (outcome.Refused letter_malformed) m)
@@ -88,9 +87,9 @@ taken_word run bytes i l =
 module _ (h : Header) (w : Window) (b : Bool) (n one two : ℕ) (bytes : List ℕ) (i : ℕ) (whole : Run)
     (inv : taken_all (run_of h w b n (Judged one two)) (drop i bytes) ≡ whole) where
   -- one turn of the loop
-  pub taken_more : (number word : ℕ) (d : DecodedLetter) (a : Letter) (j : Bool) (w' : Window) (one' two' : ℕ) → 1 < length bytes - i
+  pub taken_more : (number word : ℕ) (d : Option Letter) (a : Letter) (j : Bool) (w' : Window) (one' two' : ℕ) → 1 < length bytes - i
       → word ≡ get_or bytes i 0 * 256 + get_or bytes (i + 1) 0
-      → letter_answer d ≡ decode_letter first_edition h word → number ≡ next_number n → d ≡ decoded_letter.Letter a → j ≡ judge_of w a
+      → letter_answer d ≡ decode_letter first_edition h word → number ≡ next_number n → d ≡ Some a → j ≡ judge_of w a
       → w' ≡ performed_of w (b && j) a → one' ≡ first_of one (not (b && j)) number
       → two' ≡ first_of two w'.infeasible number → taken_all (run_of h w' (b && j) number (Judged one' two')) (drop (i + 2) bytes) ≡ whole
   taken_more number word d a j w' one' two' l k e c g p q r s =
@@ -99,9 +98,9 @@ module _ (h : Header) (w : Window) (b : Bool) (n one two : ℕ) (bytes : List �
       ∙ sym (taken_word (run_of h w b n (Judged one two)) bytes i (omega arith)) ∙ inv
 
   -- the end at a word that is no letter
-  pub taken_malformed : (number word : ℕ) (d : DecodedLetter) → 1 < length bytes - i → word ≡ get_or bytes i 0 * 256 + get_or bytes (i + 1) 0
+  pub taken_malformed : (number word : ℕ) (d : Option Letter) → 1 < length bytes - i → word ≡ get_or bytes i 0 * 256 + get_or bytes (i + 1) 0
       → letter_answer d ≡ decode_letter first_edition h word → number ≡ next_number n
-      → d ≡ decoded_letter.Malformed → run_of h w b n (Refused letter_malformed number) ≡ whole
+      → d ≡ None → run_of h w b n (Refused letter_malformed number) ≡ whole
   taken_malformed number word d l k e c g =
       let run = run_of h w b n (Refused letter_malformed number) in
       sym (taken_ended run letter_malformed number refl (drop (i + 2) bytes))

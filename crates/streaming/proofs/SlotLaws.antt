@@ -1,11 +1,10 @@
 -- The run on slots is the run on the window that they stand for.
+use Rattle.std.specs.Prelude.{Option, Some, None}
 use mathlib.Core.Path.{◌≡◌, refl, sym, ap, subst, ◌∙◌}
 use mathlib.Core.Bool.{Bool, true, false, not, ◌&&◌}
 use mathlib.Core.List.{List}
 use Prim.Native.Nat.{ℕ, ◌+◌, ◌*◌, ◌-◌, ◌≤◌, ◌<◌}
 use lib.ListN.{length, get_or, drop}
-use Rattle.letters.specs.declared.DecodedLetter.{DecodedLetter}
-use Rattle.letters.specs.declared.DecodedLetter.TheVariants as decoded_letter
 use Rattle.letters.specs.declared.Header.{Header}
 use Rattle.letters.specs.declared.Letter.{Letter}
 use Rattle.letters.specs.CodeAnswers.{letter_answer}
@@ -31,7 +30,7 @@ Stands h = RepresentsWindowInFirstEdition h.registers
 
 -- ---- a letter
 
-letter_among : (h : Header) (word : ℕ) (d : DecodedLetter) (a : Letter) → letter_answer d ≡ decode_letter first_edition h word → d ≡ decoded_letter.Letter a
+letter_among : (h : Header) (word : ℕ) (d : Option Letter) (a : Letter) → letter_answer d ≡ decode_letter first_edition h word → d ≡ Some a
     → RegistersBelowCount h.registers a
 letter_among h word d a e g =
     let (o, f, _) = (decode-letter first_roomy h word a).0 (sym e ∙ ap letter_answer g) in
@@ -59,9 +58,9 @@ module _ (h : Header) (s : Slots) (fine : Bool) (n one two : ℕ) (bytes : List 
   due j = fine && j
 
   -- one turn
-  pub standing_more : (number word : ℕ) (d : DecodedLetter) (a : Letter) (j : Bool) (s' : Slots) (one' two' : ℕ) → 1 < length bytes - i
+  pub standing_more : (number word : ℕ) (d : Option Letter) (a : Letter) (j : Bool) (s' : Slots) (one' two' : ℕ) → 1 < length bytes - i
       → word ≡ get_or bytes i 0 * 256 + get_or bytes (i + 1) 0 → letter_answer d ≡ decode_letter first_edition h word → number ≡ next_number n
-      → d ≡ decoded_letter.Letter a → j ≡ judge_slots registers functions s a → s' ≡ slots_performed s (due j) a
+      → d ≡ Some a → j ≡ judge_slots registers functions s a → s' ≡ slots_performed s (due j) a
       → one' ≡ first_of one (not (fine && j)) number → two' ≡ first_of two s'.infeasible number
       → Standing h s' (fine && j) number one' two' (drop (i + 2) bytes) whole
   standing_more number word d a j s' one' two' l k e c g p q u v =
@@ -76,9 +75,9 @@ module _ (h : Header) (s : Slots) (fine : Bool) (n one two : ℕ) (bytes : List 
       }
 
   -- the end at a word that is no letter
-  pub standing_malformed : (last : Window) (number word : ℕ) (d : DecodedLetter) → last ≡ window_of registers functions s → 1 < length bytes - i
+  pub standing_malformed : (last : Window) (number word : ℕ) (d : Option Letter) → last ≡ window_of registers functions s → 1 < length bytes - i
       → word ≡ get_or bytes i 0 * 256 + get_or bytes (i + 1) 0 → letter_answer d ≡ decode_letter first_edition h word → number ≡ next_number n
-      → d ≡ decoded_letter.Malformed → run_of h last fine n (Refused letter_malformed number) ≡ whole
+      → d ≡ None → run_of h last fine n (Refused letter_malformed number) ≡ whole
   standing_malformed last number word d b l k e c g =
       ap (λ v. run_of h v fine n (Refused letter_malformed number)) (b ∙ read_back h.registers s w st.represents)
       ∙ taken_malformed h w fine n one two bytes i whole st.taken number word d l k e c g

@@ -15,7 +15,7 @@ use super::{Run, RunAnswer};
 use letters::limits::UNIT_BYTES;
 use letters::refusal_numbers::LETTER_MALFORMED;
 use letters::words::{decode_letter, word};
-use letters::{DecodedLetter, Header, Letter};
+use letters::{Header, Letter};
 use slots::SlotWindow;
 use window::Window;
 
@@ -48,7 +48,7 @@ fn take_from(
     while bytes.len() - i > 1 {
         let decoded = decode_letter(header, word(bytes[i], bytes[i + 1]));
         let number = next_number(count);
-        let DecodedLetter::Letter(letter) = decoded else {
+        let Some(letter) = decoded else {
             return run_of(
                 header,
                 slots.window(),

@@ -11,7 +11,7 @@ use super::{Monitor, Run, RunAnswer};
 use letters::limits::UNIT_BYTES;
 use letters::refusal_numbers::LETTER_MALFORMED;
 use letters::words::{decode_letter, word};
-use letters::{DecodedLetter, Header, Letter};
+use letters::{Header, Letter};
 use window::{LINES, Mask, REGISTERS, RESULTS, Window, judge_in, perform_in};
 
 /// A run from its parts.
@@ -115,7 +115,7 @@ pub fn take_tables(
     while bytes.len() - i > 1 {
         let decoded = decode_letter(header, word(bytes[i], bytes[i + 1]));
         let number = next_number(count);
-        let DecodedLetter::Letter(letter) = decoded else {
+        let Some(letter) = decoded else {
             let last = window_of(class, unequal, result, ever, mark, bad, classes);
             return run_of(
                 header,

@@ -4,9 +4,9 @@ ghost use Rattle.streaming.specs.Monitor.{idle_of};
 ghost use Rattle.streaming.specs.Meanings.{Starts};
 
 use super::{Monitor, StepOutcome, Stepped};
+use letters::Header;
 use letters::refusal_numbers::HEADER_MALFORMED;
 use letters::words::decode_header;
-use letters::{DecodedHeader, Header};
 use window::fresh;
 
 /// What a refused start returns: a stopped monitor without registers, which refuses every letter by 4.
@@ -29,8 +29,7 @@ pub fn idle() -> Monitor
 pub fn start(word: u16) -> Stepped
     ensures { Starts word result }
 {
-    let decoded = decode_header(word);
-    let DecodedHeader::Header(header) = decoded else {
+    let Some(header) = decode_header(word) else {
         let monitor = idle();
         return Stepped {
             outcome: StepOutcome::Refused(HEADER_MALFORMED),

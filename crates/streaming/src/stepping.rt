@@ -5,9 +5,9 @@ ghost use Rattle.streaming.specs.Monitor.{moved_of};
 ghost use Rattle.streaming.specs.Meanings.{Advances};
 
 use super::{Monitor, StepOutcome, Stepped};
+use letters::Letter;
 use letters::refusal_numbers::LETTER_MALFORMED;
 use letters::words::decode_letter;
-use letters::{DecodedLetter, Letter};
 use window::{judge, perform};
 
 // Judges a letter, and then performs it if it is coherent. An incoherent letter only stops the monitor.
@@ -40,8 +40,7 @@ pub fn step(m: Monitor, word: u16) -> Stepped
     ensures { Advances m word result }
 {
     let header = m.header;
-    let decoded = decode_letter(header, word);
-    let DecodedLetter::Letter(letter) = decoded else {
+    let Some(letter) = decode_letter(header, word) else {
         return Stepped {
             outcome: StepOutcome::Refused(LETTER_MALFORMED),
             monitor: m,

@@ -13,9 +13,10 @@ use Rattle.letters.specs.Answers.{value}
 use Rattle.letters.specs.Editions.{first_edition}
 use Rattle.traces.specs.Reading.{TraceReading, trace, reading}
 use Rattle.traces.specs.ReadingParts.{counted}
-use Rattle.traces.specs.Answers.{trace_answer}
-use Rattle.traces.specs.declared.TraceRead.{TraceRead}
-use Rattle.traces.specs.declared.TraceRead.TheVariants as trace_read
+use Rattle.letters.specs.Reasons.{as_answer}
+use Rattle.std.specs.Prelude.{Result, Ok, Err}
+use Rattle.letters.specs.declared.reasons.Refused.{Refused}
+use Rattle.letters.specs.Reasons.{number_of}
 use Rattle.letters.proofs.Theory.WordLaws.{first_roomy}
 use Rattle.traces.proofs.Theory.TraceLaws.{read}
 use Rattle.text.specs.Appending.{Appended}
@@ -100,18 +101,18 @@ trace_printed s w e r q a b =
     appended_same (ap lines (q ∙ ap start_of e)) (appended_then _ _ a b)
 
 -- ── what the reader says ──
-module _ (s : List ℕ) (r : TraceRead) (a : trace_answer r ≡ counted (reading first_edition s)) where
-  pub lines_judged : (h : Header) (n : ℕ) → r ≡ trace_read.Trace h n → display_lines s ≡ trace_lines s
+module _ (s : List ℕ) (r : Result (Header × ℕ) Refused) (a : as_answer r ≡ counted (reading first_edition s)) where
+  pub lines_judged : (h : Header) (n : ℕ) → r ≡ Ok (h, n) → display_lines s ≡ trace_lines s
   unfolding display_lines
   lines_judged h n e = rw (← a, e) refl
 
-  pub lines_refused : (number place : ℕ) → r ≡ trace_read.Refused number place → display_lines s ≡ refused_line number place
+  pub lines_refused : (e : Refused) → r ≡ Err e → display_lines s ≡ refused_line (number_of e.reason) e.place
   unfolding display_lines
-  lines_refused number place e = rw (← a, e) refl
+  lines_refused f e = rw (← a, e) refl
 
   -- A trace that is read has a header.
-  pub header_there : (h : Header) (n : ℕ) → r ≡ trace_read.Trace h n → first_edition.bytes ≤ length s
-  header_there h n e = go (reading first_edition s) refl (sym (ap trace_answer e) ∙ a)
+  pub header_there : (h : Header) (n : ℕ) → r ≡ Ok (h, n) → first_edition.bytes ≤ length s
+  header_there h n e = go (reading first_edition s) refl (sym (ap as_answer e) ∙ a)
     where
       go : (q : TraceReading) → reading first_edition s ≡ q → value (h, n) ≡ counted q → first_edition.bytes ≤ length s
       go (trace g letters) p x = (read first_edition first_roomy s g letters p).enough

@@ -19,7 +19,7 @@ returns-then-lines-lt-MOST_BYTES c =
 pub put_trace_lines-requires : goal.put_trace_lines-requires
 put_trace_lines-requires c =
     let read = c.read_trace-read in
-    (header_there c.args.trace.now read.result read.ensures _ _ c.in-Trace.is, c.if-trace-gt-MOST_TRACE_BYTES.false)
+    (header_there c.args.trace.now read.result read.ensures _ _ c.in-Ok.is, c.if-trace-gt-MOST_TRACE_BYTES.false)
 
 -- the number and the place of a refusal fit
 pub put_line-requires : goal.put_line-requires
@@ -31,18 +31,18 @@ put_line-requires c =
     let n : v.number < 2 ^ 64 = omega (arith, f.fits) in
     record { fits = simp length-append (omega (arith, long_number v.number n, long_number v.place g.fits)) }
 
-pub returns-in-Trace : goal.returns-in-Trace
-returns-in-Trace c =
+pub returns-in-Ok : goal.returns-in-Ok
+returns-in-Ok c =
     let a = c.args in
     let read = c.read_trace-read in
     let put = c.put_trace_lines in
-    let same = lines_judged a.trace.now read.result read.ensures _ _ c.in-Trace.is in (
+    let same = lines_judged a.trace.now read.result read.ensures _ _ c.in-Ok.is in (
       c.if-trace-gt-MOST_TRACE_BYTES.false,
       all_printed a.trace.now a.lines.now c.if-lines-lt-MOST_BYTES.false put.new.out put.result put.ensures.few (appended_same (sym same) put.ensures.appended),
     )
 
-pub returns-in-Refused : goal.returns-in-Refused
-returns-in-Refused c =
+pub returns-in-Err : goal.returns-in-Err
+returns-in-Err c =
     let a = c.args in
     let read = c.read_trace-read in
     let v = c.in-Refused in

@@ -1,4 +1,5 @@
 -- The letters of a trace, read one after another as they are performed.
+use Rattle.std.specs.Prelude.{Option, Some, None}
 use mathlib.Core.Path.{◌≡◌, refl, sym, ◌∙◌, ap}
 use mathlib.Core.List.{List, [], ◌∷◌, ◌++◌, append_assoc}
 use Prim.Native.Nat.{ℕ, suc, ◌+◌, ◌-◌, ◌*◌, ◌%◌, ◌≤◌, ◌<◌}
@@ -11,8 +12,6 @@ use Rattle.base.proofs.Theory.Choice.{by_test}
 use Rattle.std.specs.Prelude.{Some, None}
 use Rattle.letters.specs.declared.Header.{Header}
 use Rattle.letters.specs.declared.Letter.{Letter}
-use Rattle.letters.specs.declared.DecodedLetter.{DecodedLetter}
-use Rattle.letters.specs.declared.DecodedLetter.TheVariants as decoded
 use Rattle.letters.specs.Letters.{Fits}
 use Rattle.letters.specs.Packing.{join}
 use Rattle.letters.specs.Editions.{first_edition, most_letters}
@@ -80,7 +79,7 @@ module _ (s : List ℕ) (h : Header) (n : ℕ) (r : Begun s h n) where
   rest_ends k b = let e : n - k ≡ 0 = omega arith in ap (λ m. letters_from (letter_in first_edition h) h (k + 1) (chunks 2 m (drop (2 * (k + 1)) s))) e
 
   -- letter k is decoded
-  module _ (k : ℕ) (b : k < n) (d : DecodedLetter) (e : letter_answer d ≡ letter_at first_edition h s k) where
+  module _ (k : ℕ) (b : k < n) (d : Option Letter) (e : letter_answer d ≡ letter_at first_edition h s k) where
     unit : letter_at first_edition h s k ≡ letter_in first_edition h (take 2 (drop (2 * (k + 1)) s))
     unfolding letter_at
     unit = let c = r.letters in rw (le-leb (2 * (k + 2)) (length s) (omega arith))
@@ -99,11 +98,11 @@ module _ (s : List ℕ) (h : Header) (n : ℕ) (r : Begun s h n) where
         (k + 1)) p
         ∙ ap (λ a. on_answer a (λ l. prepend_letter l (reading_from s h n (k + 1))) λ _ _. TraceReading.refused letter_malformed (k + 1)) (sym (e ∙ unit))
 
-    pub rest_bad : d ≡ decoded.Malformed → reading_from s h n k ≡ TraceReading.refused letter_malformed (k + 1)
+    pub rest_bad : d ≡ None → reading_from s h n k ≡ TraceReading.refused letter_malformed (k + 1)
     rest_bad q = rest_is ∙ ap (λ d. on_answer (letter_answer d) (λ l. prepend_letter l (reading_from s h n (k + 1))) λ _ _. TraceReading.refused letter_malformed
         (k + 1)) q
 
-    module _ {l : Letter} (q : d ≡ decoded.Letter l) where
+    module _ {l : Letter} (q : d ≡ Some l) where
       pub rest_good : reading_from s h n k ≡ prepend_letter l (reading_from s h n (k + 1))
       rest_good = rest_is ∙ ap (λ d. on_answer (letter_answer d) (λ l. prepend_letter l (reading_from s h n (k + 1))) λ _ _. TraceReading.refused letter_malformed
           (k + 1)) q
@@ -116,7 +115,7 @@ module _ (s : List ℕ) (h : Header) (n : ℕ) (r : Begun s h n) where
   pub bytes_there : (i : ℕ) → i < n → 2 * i + 2 + 1 < length s
   bytes_there i b = let c = r.letters in omega arith
 
-  pub decoded_at : (i word : ℕ) (d : DecodedLetter) → i < n → word ≡ get_or s (2 * i + 2) 0 * 256 + get_or s (2 * i + 2 + 1) 0
+  pub decoded_at : (i word : ℕ) (d : Option Letter) → i < n → word ≡ get_or s (2 * i + 2) 0 * 256 + get_or s (2 * i + 2 + 1) 0
       → letter_answer d ≡ decode_letter first_edition h word → letter_answer d ≡ letter_at first_edition h s i
   unfolding letter_at
   decoded_at i word d b w e =
@@ -132,13 +131,13 @@ module _ (s : List ℕ) (h : Header) (n : ℕ) (r : Begun s h n) where
       pub following_end : n ≤ i → RestRead h (reading_from s h n k) None
       following_end b = all_read (w.letters ++ []) (w.rest ∙ ap (behind w.letters) (rest_ends i b))
 
-      module _ (b : i < n) (d : DecodedLetter) (e : letter_answer d ≡ letter_at first_edition h s i) where
-        pub following_turn : {l : Letter} → d ≡ decoded.Letter l → Following s h n k (i + 1)
+      module _ (b : i < n) (d : Option Letter) (e : letter_answer d ≡ letter_at first_edition h s i) where
+        pub following_turn : {l : Letter} → d ≡ Some l → Following s h n k (i + 1)
         following_turn {l} q = record {
           letters = w.letters ++ (l ∷ []);
           rest =
               w.rest ∙ ap (behind w.letters) (rest_good i b d e q) ∙ behind_one w.letters l (reading_from s h n (i + 1));
         }
 
-        pub following_bad : d ≡ decoded.Malformed → RestRead h (reading_from s h n k) (Some (i + 1))
+        pub following_bad : d ≡ None → RestRead h (reading_from s h n k) (Some (i + 1))
         following_bad q = broken (i + 1) (omega arith) (w.rest ∙ ap (behind w.letters) (rest_bad i b d e q))

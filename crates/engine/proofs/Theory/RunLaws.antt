@@ -1,4 +1,5 @@
 -- The laws of the run: how it starts, goes on and ends.
+use Rattle.std.specs.Prelude.{Option, Some, None}
 use mathlib.Core.Path.{◌≡◌, refl, sym, ◌∙◌, ap, subst}
 use mathlib.Core.Logic.{◌⊎◌, inl, inr, ◌≢◌}
 use mathlib.Core.Bool.{Bool, true, false}
@@ -10,8 +11,6 @@ use native.Mathlib.Numerals.{add-one}
 use lib.ListN.{length, get_or, length-append}
 use Rattle.letters.specs.declared.Header.{Header}
 use Rattle.letters.specs.declared.Letter.{Letter}
-use Rattle.letters.specs.declared.DecodedLetter.{DecodedLetter}
-use Rattle.letters.specs.declared.DecodedLetter.TheVariants as decoded
 use Rattle.letters.specs.Letters.{Fits}
 use Rattle.letters.specs.Editions.{first_edition, most_letters, most_registers}
 use Rattle.letters.specs.CodeAnswers.{letter_answer}
@@ -52,15 +51,15 @@ module _ (s : List ℕ) (h : Header) (n : ℕ) (r : spec.Begun s h n) where
 
   module _ (function first second representative head link value left right : List ℕ) (registers : ℕ) (counts : Counts) (k : ℕ) (b : k < n)
       (w : spec.Running s h n function first second representative head link value left right registers counts.terms counts.tests counts.parted k)
-      (read : DecodedLetter) (e : letter_answer read ≡ letter_at first_edition h s k) where
+      (read : Option Letter) (e : letter_answer read ≡ letter_at first_edition h s k) where
     -- the letter is not well formed
-    pub malformed_at : read ≡ decoded.Malformed → spec.Ran s h n function first second representative counts.terms (outcome.Malformed (k + 1))
+    pub malformed_at : read ≡ None → spec.Ran s h n function first second representative counts.terms (outcome.Malformed (k + 1))
     malformed_at q = spec.malformed (k + 1) (w.rest ∙ ap (spec.behind w.letters) (rest_bad s h n r k b read e q))
 
   module _ (function first second representative head link value left right : List ℕ) (registers : ℕ) (counts : Counts) (k : ℕ) (b : k < n)
       (w : spec.Running s h n function first second representative head link value left right registers counts.terms counts.tests counts.parted k)
-      (read : DecodedLetter) (e : letter_answer read ≡ letter_at first_edition h s k)
-      (l : Letter) (q : read ≡ decoded.Letter l) where
+      (read : Option Letter) (e : letter_answer read ≡ letter_at first_edition h s k)
+      (l : Letter) (q : read ≡ Some l) where
     same_header : (state (trace_of h w.letters)).header ≡ h
     same_header = extend_header (begin h) w.letters
 

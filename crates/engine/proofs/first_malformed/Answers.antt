@@ -10,7 +10,7 @@ returns-in_default c = following_bad _ _ _ c.requires _ _ c.loop-i.invariant c.l
 
 pub loop-i-preserved : goal.loop-i-preserved
 loop-i-preserved c = following_turn _ _ _ c.requires _ _ c.loop-i.invariant c.loop-i-test.true _ (decoded_at _ _ _ c.requires _ _
-    c.decode_letter-decoded.result c.loop-i-test.true c.word.ensures c.decode_letter-decoded.ensures) c.in-Letter.is
+    c.decode_letter-decoded.result c.loop-i-test.true c.word.ensures c.decode_letter-decoded.ensures) c.in-Some.is
 
 pub returns : goal.returns
 returns c = following_end _ _ _ c.requires _ _ c.loop-i.invariant c.loop-i-test.false

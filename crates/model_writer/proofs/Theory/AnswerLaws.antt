@@ -12,11 +12,12 @@ use Rattle.std.specs.Prelude.{Option, Some, None}
 use Rattle.std.proofs.lemmas.Option.{none-some}
 use Rattle.letters.specs.declared.Header.{Header}
 use Rattle.letters.specs.declared.Letter.{Letter}
-use Rattle.traces.specs.declared.HeaderRead.{HeaderRead}
-use Rattle.traces.specs.declared.HeaderRead.TheVariants as header_read
+use Rattle.std.specs.Prelude.{Result, Ok, Err}
+use Rattle.letters.specs.declared.reasons.Refused.{Refused}
+use Rattle.letters.specs.Reasons.{number_of}
 use Rattle.letters.specs.Editions.{first_edition, most_letters, most_registers}
 use Rattle.letters.specs.Answers as letters
-use Rattle.traces.specs.Answers.{beginning_answer}
+use Rattle.letters.specs.Reasons.{as_answer}
 use Rattle.letters.proofs.Theory.WordLaws.{first_roomy}
 use Rattle.traces.specs.Reading.{TraceReading, trace, beginning, letter_count, letters_of, reading_where}
 use Rattle.traces.specs.ReadingParts.{reading_within}
@@ -275,14 +276,14 @@ stopped_some h x k p (run.all_read ls e) q = absurd (none-some _ q)
 stopped_some h x k p (run.broken r l e) q = let z : r ≡ p = cc in ill p (e ∙ ap (TraceReading.refused letter_malformed) z)
 
 -- ---- what the beginning gives
-module _ (s : List ℕ) (d : HeaderRead) (e : beginning_answer d ≡ beginning first_edition s) (out : List ℕ) where
-  pub showed_refused : {a : ℕ} → d ≡ header_read.Refused a → Showed s out (shown.Refused a 0) out
+module _ (s : List ℕ) (d : Result Header Refused) (e : as_answer d ≡ beginning first_edition s) (out : List ℕ) where
+  pub showed_refused : {r : Refused} → d ≡ Err r → Showed s out (shown.Refused (number_of r.reason) r.place) out
   unfolding answer_to output_after reading_where
-  showed_refused {a} q = let x = sym e ∙ ap beginning_answer q in showed s out (shown.Refused a 0) out (rw x) (rw x)
+  showed_refused {r} q = let x = sym e ∙ ap as_answer q in showed s out (shown.Refused (number_of r.reason) r.place) out (rw x) (rw x)
 
-  module _ {h : Header} (q : d ≡ header_read.Header h) where
+  module _ {h : Header} (q : d ≡ Ok h) where
     header_is : beginning first_edition s ≡ letters.value h
-    header_is = sym e ∙ ap beginning_answer q
+    header_is = sym e ∙ ap as_answer q
 
     pub bytes_enough : first_edition.bytes ≤ length s
     bytes_enough = (headed s h header_is).enough

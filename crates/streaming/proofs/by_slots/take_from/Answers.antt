@@ -24,13 +24,13 @@ pub judge-fine-requires : goal.judge-fine-requires
 judge-fine-requires c =
     let a = c.args in
     step_within (record { header = a.header; window = window_of registers functions a.slots; running = a.fine }) _ _ c.decode_letter-decoded.ensures _
-    c.in-Letter.is
+    c.in-Some.is
 
 pub perform_if-requires : goal.perform_if-requires
 perform_if-requires c =
     let a = c.args in
     step_within (record { header = a.header; window = window_of registers functions a.slots; running = a.fine }) _ _ c.decode_letter-decoded.ensures _
-    c.in-Letter.is
+    c.in-Some.is
 
 pub loop-i-preserved : goal.loop-i-preserved
 loop-i-preserved c =
@@ -41,7 +41,7 @@ loop-i-preserved c =
     record {
       within = omega (arith, t, l.invariant.within);
       stands = λ whole begun. standing_more a.header l.slots l.fine l.count l.one l.two a.bytes.now l.i whole (l.invariant.stands whole begun)
-          _ _ _ _ _ _ _ _ t c.word.ensures c.decode_letter-decoded.ensures c.next_number-number.ensures c.in-Letter.is c.judge-fine.ensures
+          _ _ _ _ _ _ _ _ t c.word.ensures c.decode_letter-decoded.ensures c.next_number-number.ensures c.in-Some.is c.judge-fine.ensures
           c.perform_if.ensures c.first-one.ensures (c.first-two.ensures ∙ two);
     }
 

@@ -52,12 +52,12 @@ take_tables_spec = tie.close (tie.spec
     let a = c.args in
     let l = c.loop-i in
     step_within (record { header = a.header; window = a.window; running = a.running }) _ _ c.decode_letter-decoded.ensures _
-    c.in-Letter.is)
+    c.in-Some.is)
     (λ c κs.
     let a = c.args in
     let l = c.loop-i in (
       step_within (record { header = a.header; window = a.window; running = a.running }) _ _ c.decode_letter-decoded.ensures _
-          c.in-Letter.is,
+          c.in-Some.is,
       l.invariant.1,
     ))
     (λ c κs. search rules)
@@ -74,7 +74,7 @@ take_tables_spec = tie.close (tie.spec
       c.performed-bad.ensures.1,
       taken_more a.header (window_of_parts l.class l.unequal l.result l.ever l.mark l.bad l.classes) l.fine l.count l.one
           l.two a.bytes.now l.i _ l.invariant.2 _ _ _ _ _ _ _ _ t c.word.ensures c.decode_letter-decoded.ensures
-          c.next_number-number.ensures c.in-Letter.is (c.judge_in.ensures l.unequal l.bad l.classes)
+          c.next_number-number.ensures c.in-Some.is (c.judge_in.ensures l.unequal l.bad l.classes)
           c.performed-bad.ensures.0 c.first-one.ensures c.first-two.ensures,
     ))
     (λ c κs. search rules)
