@@ -12,4 +12,4 @@ pub show_trace-requires : goal.show_trace-requires
 show_trace-requires c = begun _ _ c.read_beginning-begun.ensures [] c.in-Ok.is c.if-letters-gt-MOST_LETTERS.false
 
 pub returns-in-Err : goal.returns-in-Err
-returns-in-Err c = rw c.from.ensures (showed_refused _ _ c.read_beginning-begun.ensures c.in-Err.is)
+returns-in-Err c = rw c.from.ensures (showed_refused _ _ c.read_beginning-begun.ensures _ c.in-Err.is)
