@@ -151,13 +151,13 @@ impl Terms {
 }
 
 // The first number below the bound in the chain from `start` on.
-fn below(link: &Numbers, start: u16, bound: usize) -> u16
+fn below(link: &Numbers, start: usize, bound: usize) -> usize
     requires { Down link.now × (start < most_terms) × (1 ≤ bound) }
     ensures { Cut link.now start bound result }
 {
     let mut i = start;
-    while bound <= i as usize {
-        i = link[i as usize];
+    while bound <= i {
+        i = link[i] as usize;
     }
     i
 }
@@ -171,11 +171,11 @@ fn without_last(last: u16, before: u16, k: usize) -> u16
 
 impl Index {
     // An application with the signature c in the chain from `start` on, or a number below `registers` where there is none.
-    fn find(&self, terms: &Terms, n: usize, start: u16, c: usize) -> usize
+    fn find(&self, terms: &Terms, n: usize, start: usize, c: usize) -> usize
         requires { ReadableTerms terms.now n × (start < n) × Down self.now.link }
         ensures { Found (signatures terms.now) terms.now.registers n self.now.link start c result }
     {
-        let mut i = start as usize;
+        let mut i = start;
         while terms.registers <= i {
             if terms.signature_at(i) == c {
                 return i;
@@ -192,7 +192,7 @@ impl Index {
         ensures { Entered (signatures terms.now) terms.now.registers n c self.old.head self.old.link result self.new.head self.new.link }
     {
         let chain = c % CHAINS;
-        let found = self.find(terms, n, self.head[chain], c);
+        let found = self.find(terms, n, self.head[chain] as usize, c);
         if terms.registers <= found {
             return found;
         }
@@ -208,7 +208,7 @@ impl Index {
         ensures links { self.new.link ≡ self.old.link }
     {
         for last in &mut self.head {
-            *last = below(&self.link, *last, bound);
+            *last = below(&self.link, *last as usize, bound) as u16;
         }
     }
 
