@@ -31,4 +31,3 @@ pub mod Step
 pub mod Uniqueness
 pub mod Unique
 pub mod Names
-pub mod Parts

@@ -52,4 +52,5 @@ module _ (ρ φ : ℕ) where
   unfoldable pub lost_of : List ℕ → ℕ → ℕ → ℕ
   lost_of l x more =
       raised_of ρ (above_of ρ (folded_of l))
-      (bit_or (bit_or (bit_or (below_of ρ (above_of ρ (folded_of l)) (2 ^ x) ρ) (beside_of ρ (folded_of l) x ρ)) (flag_of ρ (get_or (above_of ρ (folded_of l)) x 0) x)) more)
+      (bit_or (bit_or (bit_or (below_of ρ (above_of ρ (folded_of l)) (2 ^ x) ρ) (beside_of ρ (folded_of l) x ρ)) (flag_of ρ (get_or (above_of ρ
+      (folded_of l)) x 0) x)) more)

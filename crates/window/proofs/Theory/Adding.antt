@@ -163,7 +163,8 @@ module _ (ρ f first second what : ℕ) (old : List ℕ) where
       → l ≡ results_added ρ (until first (a + 1)) f second what old
   added_skip a l e t = e ∙ ap (λ P. results_added ρ P f second what old) (fun_ext λ s. sym (until_skip first a s t))
 
-  pub added_all : 0 < ρ → (a : ℕ) (l : List ℕ) → l ≡ results_added ρ (until first a) f second what old → ρ ≤ a → l ≡ results_added ρ (has first) f second what old
+  pub added_all : 0 < ρ → (a : ℕ) (l : List ℕ) → l ≡ results_added ρ (until first a) f second what old → ρ ≤ a
+      → l ≡ results_added ρ (has first) f second what old
   unfolding results_added
   added_all some a l e h = table_is (λ i. bit_or (get_or old i 0) (cond ((eqb (i / (ρ * ρ)) f && has first (i / ρ % ρ)) && has second (i % ρ)) what 0))
       (length old) l 0

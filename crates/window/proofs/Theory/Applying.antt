@@ -491,7 +491,8 @@ module _ (ρ φ : ℕ) where
     marked_go {r} rb (here d) = ((λ t. absurd (no_truth ((view ρ φ w').marked r) (marked_here r (low r rb) d) t)), (λ k. absurd (⊎_elim (λ t. t) no_bared k)))
     marked_go {r} rb (there d) = Iff.trans (same_iff (marked_there r (low r rb) d)) (
       (λ t. ⊎_elim inl (λ k. let (o, b) = (fall r).0 k in inr (bared_i o rb b)) (or_e ((view ρ φ w).marked r) (has F r) t)),
-      (λ k. ⊎_elim (or_l ((view ρ φ w).marked r) (has F r)) (λ b. or_r ((view ρ φ w).marked r) (has F r) (let (_, o, q) = bared_e r rb b in (fall r).1 (o, q))) k),
+      (λ k. ⊎_elim (or_l ((view ρ φ w).marked r) (has F r)) (λ b. or_r ((view ρ φ w).marked r) (has F r) (let (_, o, q) = bared_e r rb b in (fall r).1
+          (o, q))) k),
     )
 
     pub renamed_applied : Renamed (suc n) W (target x) n (view ρ φ w')

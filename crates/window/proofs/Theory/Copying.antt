@@ -135,7 +135,8 @@ module _ (ρ φ : ℕ) where
         )
 
     pub first_below : (k c : ℕ) → k < φ * ρ * ρ → c < ρ → T (has (get_or w.result k 0) c) → (place_first ρ k < n) × (place_second ρ k < n) × (c < n)
-    first_below k c kb cb t = i.result (place_function ρ k) (place_first ρ k) (place_second ρ k) c (places.first_below ρ φ k kb) (places.second_below ρ φ k kb) cb
+    first_below k c kb cb t = i.result (place_function ρ k) (place_first ρ k) (place_second ρ k) c (places.first_below ρ φ k kb)
+        (places.second_below ρ φ k kb) cb
         (cell_result w k c kb t)
 
     module _ (one : size_of ρ (get_or w.class x 0) ≡ 1) where
@@ -331,7 +332,8 @@ module _ (ρ φ : ℕ) where
     unfolding copied_tables
     apart_copied r s rb = row_copied w.unequal r s sh.unequal rb
 
-    pub result_copied : (f a b c : ℕ) → a < ρ → b < ρ → T ((view ρ φ w').result f a b c) ↔ T ((view ρ φ w).result f (copied x y a) (copied x y b) (copied x y c))
+    pub result_copied : (f a b c : ℕ) → a < ρ → b < ρ → T ((view ρ φ w').result f a b c) ↔ T ((view ρ φ w).result f (copied x y a) (copied x y b)
+        (copied x y c))
     unfolding copied_tables
     result_copied f a b c ab bb = by_test (ltb f φ)
         (λ u. rw u (Iff.trans (results_is ρ φ y y (2 ^ x) yb yb w.result sh.result f a b c (ltb-true f φ u) ab bb) (

@@ -1,5 +1,5 @@
 -- What is true of every window of a state, in the window's own words.
-use mathlib.Core.Logic.{◌⊎◌, inl, inr, ⊎_elim}
+use mathlib.Core.Logic.{inl, inr, ⊎_elim}
 use Prim.Native.Nat.{ℕ, ◌<◌}
 use lib.Dec.{T}
 use Rattle.semantics.specs.Terms.{Term, State}

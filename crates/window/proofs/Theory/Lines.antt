@@ -195,7 +195,8 @@ module _ {ρ : ℕ} (L : TableLines ρ) where
           no : ◌≡◌ {A = Bool} true false → ⊥
           no z = subst T z tt
 
-          joined : (i : ℕ) → i < length old → get_or J (entry_on_line L i a) 0 ≡ bit_or (get_or old (entry_on_line L i a) 0) (get_or old (entry_on_line L i b) 0)
+          joined : (i : ℕ) → i < length old → get_or J (entry_on_line L i a) 0 ≡ bit_or (get_or old (entry_on_line L i a) 0) (get_or old
+              (entry_on_line L i b) 0)
           joined i h = united-at (λ s. eqb s a) a b old (entry_on_line L i a) (at_below i a h ab) ∙ united_here a a b old (L.line i) ab
 
     pub united_same : (P Q : ℕ → Bool) (a b : ℕ) (l : List ℕ) → 0 < ρ → ((s : ℕ) → s < ρ → P s ≡ Q s) → united L P a b l ≡ united L Q a b l

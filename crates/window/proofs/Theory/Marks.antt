@@ -274,7 +274,8 @@ module _ (ρ : ℕ) where
 
 module _ (ρ φ : ℕ) where
   -- what `lost` calls, one after the other
-  pub lost_is : (l t up : List ℕ) (x more one b e f r : ℕ) → t ≡ folded_of ρ φ l → up ≡ above_of ρ t → one ≡ 2 ^ x → b ≡ below_of ρ up one ρ → e ≡ beside_of ρ t x ρ
+  pub lost_is : (l t up : List ℕ) (x more one b e f r : ℕ) → t ≡ folded_of ρ φ l → up ≡ above_of ρ t → one ≡ 2 ^ x → b ≡ below_of ρ up one ρ
+      → e ≡ beside_of ρ t x ρ
       → f ≡ flag_of ρ (get_or up x 0) x → r ≡ raised_of ρ up (bit_or (bit_or (bit_or b e) f) more) → r ≡ lost_of ρ φ l x more
   unfolding lost_of
   lost_is l t up x more one b e f r p q o i j k h = rw (h, i, j, k, o, q, p)
@@ -388,9 +389,11 @@ module _ (ρ φ : ℕ) (l : List ℕ) (x more : ℕ) (xb : x < ρ) (mb : more < 
       ⊎_elim (λ e. subst (λ z. z < ρ) (sym e) (mod-lt (k / ρ) p)) (λ e. subst (λ z. z < ρ) (sym e) (mod-lt k p)) d
 
   seed_is : (h : ℕ) → T (has (bit_or
-      (bit_or (bit_or (below_of ρ (above_of ρ (folded_of ρ φ l)) (2 ^ x) ρ) (beside_of ρ (folded_of ρ φ l) x ρ)) (flag_of ρ (get_or (above_of ρ (folded_of ρ φ l)) x 0) x))
+      (bit_or (bit_or (below_of ρ (above_of ρ (folded_of ρ φ l)) (2 ^ x) ρ) (beside_of ρ (folded_of ρ φ l) x ρ)) (flag_of ρ (get_or (above_of ρ
+      (folded_of ρ φ l)) x 0) x))
       more) h)
-      ↔ (T (has more h) ⊎ ((k : ℕ) × (c : ℕ) × (k < φ * ρ * ρ) × (c < ρ) × T (has (get_or l k 0) c) × ((place_first ρ k ≡ x) ⊎ ((place_second ρ k ≡ x) ⊎ (c ≡ x)))
+      ↔ (T (has more h) ⊎ ((k : ℕ) × (c : ℕ) × (k < φ * ρ * ρ) × (c < ρ) × T (has (get_or l k 0) c) × ((place_first ρ k ≡ x) ⊎ ((place_second ρ k
+      ≡ x) ⊎ (c ≡ x)))
       × ((h ≡ place_first ρ k) ⊎ (h ≡ place_second ρ k))))
   seed_is h = (into, out)
     where
@@ -448,13 +451,15 @@ module _ (ρ φ : ℕ) (l : List ℕ) (x more : ℕ) (xb : x < ρ) (mb : more < 
           hb : h < ρ
           hb = argument_below k h e
 
-          beside : T (has (get_or (folded_of ρ φ l) (ρ * x + h) 0) c) ⊎ T (has (get_or (folded_of ρ φ l) (ρ * h + x) 0) c) → T (has (bit_or B S) h) ⊎ T (has G h)
+          beside : T (has (get_or (folded_of ρ φ l) (ρ * x + h) 0) c) ⊎ T (has (get_or (folded_of ρ φ l) (ρ * h + x) 0) c)
+              → T (has (bit_or B S) h) ⊎ T (has G h)
           beside p = inl ((or_is B S h).1 (inr ((beside_is ρ (folded_of ρ φ l) x ρ h).1 (hb, (c, cb, p)))))
 
           own : (x ≡ place_first ρ k) ⊎ (x ≡ place_second ρ k) → h ≡ x → T (has (bit_or B S) h) ⊎ T (has G h)
           own p q = inr ((flag_is ρ (get_or (above_of ρ (folded_of ρ φ l)) x 0) x h).1 (q, (c, cb, (above_is ρ φ l x c xb).1 (k, kb, t, p))))
 
-          find : (place_first ρ k ≡ x) ⊎ ((place_second ρ k ≡ x) ⊎ (c ≡ x)) → (h ≡ place_first ρ k) ⊎ (h ≡ place_second ρ k) → T (has (bit_or B S) h) ⊎ T (has G h)
+          find : (place_first ρ k ≡ x) ⊎ ((place_second ρ k ≡ x) ⊎ (c ≡ x)) → (h ≡ place_first ρ k) ⊎ (h ≡ place_second ρ k)
+              → T (has (bit_or B S) h) ⊎ T (has G h)
           find (inl p) (inl q) = own (inl (sym p)) (q ∙ p)
           find (inl p) (inr q) = beside (inl
               ((folded_is ρ φ l x h c xb hb).1 (

@@ -47,7 +47,8 @@ module _ (ρ φ : ℕ) where
     )
 
     in_or : (r : ℕ) → In n (view ρ φ w) a b r ⊎ ¬ In n (view ρ φ w) a b r
-    in_or r = ⊎_elim (λ k. inl (inl k)) (λ k. ⊎_elim (λ l. inl (inr l)) (λ l. inr (⊎_elim k l)) (or_not ((view ρ φ w).same b r))) (or_not ((view ρ φ w).same a r))
+    in_or r = ⊎_elim (λ k. inl (inl k)) (λ k. ⊎_elim (λ l. inl (inr l)) (λ l. inr (⊎_elim k l)) (or_not ((view ρ φ w).same b r))) (or_not
+        ((view ρ φ w).same a r))
 
     in_below : (r : ℕ) → r < ρ → In n (view ρ φ w) a b r → r < n
     in_below r rb (inl k) = (i.same a r (low a ab) rb k).1
@@ -93,7 +94,8 @@ module _ (ρ φ : ℕ) where
 
     -- a table of masks of the merged window
     table_merged : (l : List ℕ) (j r s : ℕ) → r < ρ → ρ * j + r < length l
-        → T (has (get_or (masks_through ρ a b (both_classes w a b) l) (ρ * j + r) 0) s) ↔ ((z : ℕ) × (y : ℕ) × As r z × As s y × T (has (get_or l (ρ * j + z) 0) y))
+        → T (has (get_or (masks_through ρ a b (both_classes w a b) l) (ρ * j + r) 0) s) ↔ ((z : ℕ) × (y : ℕ) × As r z × As s y × T (has (get_or l
+        (ρ * j + z) 0) y))
     table_merged l j r s rb h = masks_is ρ φ a b (both_classes w a b) (low a ab) (low b bb) l j r s rb h
 
     row_merged : (l : List ℕ) (r s : ℕ) → length l ≡ ρ → r < ρ

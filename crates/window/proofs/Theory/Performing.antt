@@ -67,32 +67,6 @@ module _ (ρ φ : ℕ) where
   unfolding copied_of
   copied_within w x y h = rw h
 
-  pub copied_moved : (w : Window) (x y s : ℕ) (m : List Bool) (c u r e : List ℕ) (n : ℕ) (v : Window) → has (get_or w.class x 0) y ≡ false
-      → s ≡ fallen_of ρ φ (get_or w.class x 0) w.result x 0 → m ≡ marked_with ρ w.mark s
-      → c ≡ masks_through ρ y y (2 ^ x) w.class → u ≡ masks_through ρ y y (2 ^ x) w.unequal → r ≡ results_through ρ y y (2 ^ x) w.result
-      → e ≡ masks_through ρ y y (2 ^ x) w.ever → n ≡ count_left ρ (get_or w.class x 0) w.classes
-      → v ≡ with_tables w c u r e (set m x (get_or m y false)) n → v ≡ copied_of ρ φ w x y
-  unfolding copied_of copied_tables
-  copied_moved w x y s m c u r e n v h p q i j k l o d = rw (h, d, i, j, k, l, q, p, o)
-
-  pub merged_is : (w : Window) (a b s : ℕ) (c u r e : List ℕ) (n : ℕ) (v : Window) → s ≡ 2 ^ a
-      → c ≡ masks_through ρ a b (bit_or (bit_or (get_or w.class a 0) (get_or w.class b 0)) s) w.class
-      → u ≡ masks_through ρ a b (bit_or (bit_or (get_or w.class a 0) (get_or w.class b 0)) s) w.unequal
-      → r ≡ results_through ρ a b (bit_or (bit_or (get_or w.class a 0) (get_or w.class b 0)) s) w.result
-      → e ≡ masks_through ρ a b (bit_or (bit_or (get_or w.class a 0) (get_or w.class b 0)) s) w.ever
-      → n ≡ one_fewer w.classes → v ≡ with_tables w c u r e w.mark n → v ≡ merged_of ρ φ w a b
-  unfolding merged_of
-  merged_is w a b s c u r e n v o i j k l f d = rw (d, i, j, k, l, o, f)
-
-  pub applied_is : (w : Window) (x f y z s a o : ℕ) (m : List Bool) (c u r e : List ℕ) (t : ℕ) (v : Window)
-      → a ≡ arguments_of x y z (get_or w.class y 0) (get_or w.class z 0) → s ≡ fallen_of ρ φ (get_or w.class x 0) w.result x a
-      → m ≡ marked_with ρ w.mark s → o ≡ 2 ^ x → c ≡ masks_forgotten ρ x w.class → u ≡ masks_forgotten ρ x w.unequal
-      → r ≡ results_forgotten ρ x f (get_or w.class y 0) (get_or w.class z 0) w.result
-      → e ≡ masks_forgotten ρ x (line_added ρ f (get_or w.class y 0) (get_or w.class z 0) w.ever) → t ≡ count_made ρ (get_or w.class x 0) w.classes
-      → v ≡ with_tables w (set c x o) u r e (set m x false) t → v ≡ applied_of ρ φ w x f y z
-  unfolding applied_of
-  applied_is w x f y z s a o m c u r e t v p q i j k l n h b d = rw (d, k, j, l, n, h, i, q, p, b)
-
   pub apply_known : (w : Window) (x f y z r : ℕ) (v : Window) → r ≡ least_in ρ (get_or w.result (place ρ f y z) 0) → r < ρ → v ≡ copied_of ρ φ w x r
       → v ≡ apply_of ρ φ w x f y z
   unfolding apply_of

@@ -27,7 +27,8 @@ module _ (ρ : ℕ) where
   place_sum f a b = omega (arith, mul_assoc ρ ρ f, mul-add ρ (ρ * f) a)
 
   pub place_is : (k : ℕ) → place ρ (place_function ρ k) (place_first ρ k) (place_second ρ k) ≡ k
-  place_is k = ap (λ f. place ρ f (place_first ρ k) (place_second ρ k)) (sym (div-div-eq-div-mul k ρ ρ)) ∙ ap (λ j. ρ * j + k % ρ) (entry_is (k / ρ)) ∙ entry_is k
+  place_is k = ap (λ f. place ρ f (place_first ρ k) (place_second ρ k)) (sym (div-div-eq-div-mul k ρ ρ)) ∙ ap (λ j. ρ * j + k % ρ) (entry_is (k / ρ))
+      ∙ entry_is k
 
   module _ (f a b : ℕ) (ab : a < ρ) (bb : b < ρ) where
     pub function_place : place_function ρ (place ρ f a b) ≡ f

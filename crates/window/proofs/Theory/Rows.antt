@@ -18,11 +18,12 @@ use Rattle.base.specs.Masks.{bit, has}
 use Rattle.semantics.proofs.Theory.Booleans.{and_l, and_r}
 use Rattle.window.specs.Bits.{nonempty}
 use Rattle.window.specs.Adding.{part_of}
-use Rattle.window.specs.Layout.{word_bits}
+use Rattle.window.specs.Layout.{registers, word_bits}
 use Rattle.window.specs.Rows.{SmallRows, joined_rows, flag_row}
 use Rattle.window.specs.Table.{table, table_from}
 use Rattle.window.proofs.Theory.Bits.{true_of, false_of, none_in, nonempty_is, meets}
 use Rattle.window.proofs.Theory.Table.{table_at}
+use Rattle.std.specs.Int.{w64, to_le_bytes}
 
 -- the bits below ρ of a number are those of its rest
 pub bit_mod : (n ρ b : ℕ) → b < ρ → bit (n % 2 ^ ρ) b ≡ bit n b
@@ -37,6 +38,11 @@ pub nonempty_test : (ρ m : ℕ) → m < 2 ^ ρ → nonempty ρ m ≡ not (eqb m
 nonempty_test ρ m h = by_test (eqb m 0)
     (λ t. rw t (false_of (nonempty ρ m) (λ k. let (c, _, u) = (nonempty_is ρ m).0 k in none_in c (subst (λ n. T (has n c)) (eqb-true m 0 t) u))))
     (λ t. rw t (true_of (nonempty ρ m) (let (c, b, u, _) = meets ρ m m h (λ z. eqb-false m 0 t (sym (and_self m) ∙ z)) in (nonempty_is ρ m).1 (c, b, u))))
+
+-- the bytes of a word of eight rows of eight flags are its rows
+pub bytes_are : (n : ℕ) → to_le_bytes w64 n ≡ table (flag_row registers n) registers
+unfolding table table_from flag_row
+bytes_are n = let e : n / 1 ≡ n = omega arith in rw e
 
 module _ (ρ : ℕ) where
   row_next : (a : ℕ) → ρ * suc a ≡ ρ + ρ * a
@@ -70,7 +76,8 @@ module _ (ρ : ℕ) where
     row_joined zero a s h = absurd (omega arith)
     row_joined (suc n) a s h = ⊎_elim
         (λ e. let same : a ≡ n = omega arith in
-        rw same (ap (λ m. m % 2 ^ ρ) (high (get_or l n 0) (ρ * n) {lo = joined_rows ρ l n} (joined_small n (fewer n s))) ∙ mod-eq_of_lt (s.row n (omega arith))))
+        rw same (ap (λ m. m % 2 ^ ρ) (high (get_or l n 0) (ρ * n) {lo = joined_rows ρ l n} (joined_small n (fewer n s)))
+        ∙ mod-eq_of_lt (s.row n (omega arith))))
         (λ b. let before : a < n = omega arith in
         let e : (ρ * n - (ρ + ρ * a)) + (ρ + ρ * a) ≡ ρ * n = omega (arith, row_ahead a n before) in
         let whole = get_or l n 0 * 2 ^ (ρ * n) + joined_rows ρ l n in
@@ -106,7 +113,12 @@ module _ (ρ : ℕ) where
     pub apart_word : (n a others : ℕ) → SmallRows ρ l n → a < n → others < 2 ^ ρ
         → not (eqb (bit_and (joined_rows ρ l n) (others * 2 ^ (ρ * a))) 0) ≡ nonempty ρ (bit_and (get_or l a 0) others)
     apart_word n a others s h b = rw (row_meets n a others s h b)
-        (ap not (scaled (bit_and (get_or l a 0) others)) ∙ sym (nonempty_test ρ (bit_and (get_or l a 0) others) (omega (arith, and_le_r (get_or l a 0) others, b))))
+        (ap not (scaled (bit_and (get_or l a 0) others)) ∙ sym (nonempty_test ρ (bit_and (get_or l a 0) others) (omega (
+          arith,
+          and_le_r
+              (get_or l a 0) others,
+          b,
+        ))))
       where
         scaled : (m : ℕ) → eqb (m * 2 ^ (ρ * a)) 0 ≡ eqb m 0
         scaled m = by_test (eqb m 0)
@@ -115,27 +127,11 @@ module _ (ρ : ℕ) where
 
   -- ---- a turn of the loop that joins rows into a word of w bits
 
-  pub joined_none : (l : List ℕ) → 0 ≡ joined_rows ρ l 0
-  unfolding joined_rows
-  joined_none l = refl
-
-  pub joined_more : (w : ℕ) (l : List ℕ) (a word row : ℕ) → SmallRows ρ l a → ρ + ρ * a ≤ w → word ≡ joined_rows ρ l a → row ≡ get_or l a 0 → row < 2 ^ ρ
-      → bit_or word ((row * 2 ^ (ρ * a)) % 2 ^ w) ≡ joined_rows ρ l (a + 1)
-  unfolding joined_rows
-  joined_more w l a word row s b e f h =
-      ap (λ m. bit_or word m) (shl_exact ρ (ρ * a) w h b) ∙ or_shifted_r row (ρ * a) word (rw e (joined_small l a s))
-      ∙ rw (e, f, add-one a) refl
-
-  pub rows_none : (l : List ℕ) → SmallRows ρ l 0
-  rows_none l = record { row = λ a h. absurd (omega arith) }
-
-  pub rows_more : (l : List ℕ) (n : ℕ) → SmallRows ρ l n → get_or l n 0 < 2 ^ ρ → SmallRows ρ l (n + 1)
-  rows_more l n s h = record { row = λ a b. by_test (eqb a n) (λ t. rw (eqb-true a n t) h) (λ t. let d = eqb-false a n t in s.row a (omega arith)) }
-
   -- ---- what the union of three words has in its rows
 
   pub row_parted : (l : List ℕ) (F G : ℕ → ℕ) (a : ℕ) → SmallRows ρ l ρ → ((k : ℕ) → k < ρ → F k < 2 ^ ρ) → ((k : ℕ) → k < ρ → G k < 2 ^ ρ) → a < ρ
-      → flag_row ρ (bit_or (bit_or (joined_rows ρ l ρ) (joined_rows ρ (table F ρ) ρ)) (joined_rows ρ (table G ρ) ρ)) a ≡ bit_or (bit_or (get_or l a 0) (F a)) (G a)
+      → flag_row ρ (bit_or (bit_or (joined_rows ρ l ρ) (joined_rows ρ (table F ρ) ρ)) (joined_rows ρ (table G ρ) ρ)) a
+      ≡ bit_or (bit_or (get_or l a 0) (F a)) (G a)
   row_parted l F G a s f g h =
       row_or (bit_or (joined_rows ρ l ρ) (joined_rows ρ (table F ρ) ρ)) (joined_rows ρ (table G ρ) ρ) a
       ∙ ap (λ m. bit_or m (flag_row ρ (joined_rows ρ (table G ρ) ρ) a)) (row_or (joined_rows ρ l ρ) (joined_rows ρ (table F ρ) ρ) a)
@@ -212,7 +208,3 @@ agree_at (suc n) m h t = ⊎_elim
 
 pub first_flags_is : (m : ℕ) → m < 2 ^ 8 → computed_flags m ≡ first_flags m
 first_flags_is m h = agree_at 256 m h all_agree
-
--- the sum loses nothing
-pub first_flags_sum : (m : ℕ) → bit_and (m * in_each_row) own_in_each_row + all_but_last < 2 ^ word_bits
-first_flags_sum m = omega (arith, and_le_r (m * in_each_row) own_in_each_row)

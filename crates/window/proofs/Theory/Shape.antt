@@ -57,7 +57,8 @@ module _ (ρ φ : ℕ) where
   unfolding united united_at
   bytes_united L P a b l f = bytes_table (united_at L P a b l) (length l)
       (λ i h. by_test (P (L.along i))
-      (λ t. rw t (or_small ρ (get_or l (entry_on_line L i a) 0) (get_or l (entry_on_line L i b) 0) (f (entry_on_line L i a)) (f (entry_on_line L i b)))) (λ t. rw t (f i)))
+      (λ t. rw t (or_small ρ (get_or l (entry_on_line L i a) 0) (get_or l (entry_on_line L i b) 0) (f (entry_on_line L i a)) (f (entry_on_line L i b))))
+      (λ t. rw t (f i)))
 
   bytes_cleared : (L : TableLines ρ) (x : ℕ) (l : List ℕ) → Masks ρ l → Masks ρ (cleared L x l)
   unfolding cleared cleared_at

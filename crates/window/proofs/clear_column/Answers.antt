@@ -1,0 +1,16 @@
+use Rattle.std.proofs.Common.{refl}
+use Rattle.window.specs.Layout.{registers}
+use Rattle.window.specs.Lines.{columns}
+use Rattle.window.proofs.Theory.Lines.{columns_partition, gone_none, clear_more, cleared_all}
+use Rattle.window.proofs.Theory.Through.{columns_span}
+use Rattle.window.proofs.clear_column.Goals as goal
+
+pub loop-j-init : goal.loop-j-init
+loop-j-init c = gone_none _ _ _ _
+
+pub loop-j-preserved : goal.loop-j-preserved
+loop-j-preserved c = clear_more (columns registers) (columns_partition registers) _ _ _ _ _ (columns_span registers _ _ c.requires.1 refl) c.requires.0
+    c.loop-j-test.true c.loop-j.invariant
+
+pub returns : goal.returns
+returns c = cleared_all (columns registers) _ _ _ _ _ (columns_span registers _ _ c.requires.1 refl) c.loop-j-test.false c.loop-j.invariant

@@ -1,0 +1,8 @@
+use Rattle.std.proofs.Common.{eqb}
+use Rattle.window.specs.Layout.{registers}
+use Rattle.window.specs.Lines.{columns, united_at}
+use Rattle.window.proofs.Theory.Lines.{Gone}
+use Rattle.window.proofs.unite_column.Given as goal
+
+abbrev pub invariant-loop-j : goal.invariant-loop-j
+invariant-loop-j l = Gone (columns registers) (united_at (columns registers) (λ s. eqb s l.r) l.a l.b l.fn.t) l.r l.fn.t l.j l.t
