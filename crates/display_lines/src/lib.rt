@@ -25,7 +25,7 @@ use text::{FIELDS, put_line};
 use tokens::BYTE_VALUES;
 use traces::read_trace;
 use unequal_flags::unequal_word;
-use window::{Window, class_count};
+use window::Window;
 
 /// A longer trace is not judged.
 pub const MOST_TRACE_BYTES: usize = 65536;
@@ -99,7 +99,7 @@ fn digit_name(number: u64) -> u64
 fn state_fields(letters: u64, w: Window) -> [u64; FIELDS]
     ensures { StateFields letters w result }
 {
-    let count = class_count(w);
+    let count = w.class_count();
     let pairs = unequal_word(w);
     [
         letters,

@@ -180,7 +180,7 @@ fn fail(w: Window, count: usize) -> Turn
 // Performs move number d: branch d % 2 of pair d / 2, whose point and window these are.
 fn one_move(
     point: PointEntry,
-    w: Window,
+    mut w: Window,
     end: usize,
     table: &mut [u8],
     head: &mut Heads,
@@ -200,16 +200,16 @@ fn one_move(
             return Turn::On(count);
         }
         PointMove::Goes(letter, k) => {
-            if window::judge(w, letter) {
-                let after = window::perform(w, letter);
-                return reach(k, after, end, table, head, link, n, count, d);
+            if w.judge(letter) {
+                w.perform(letter);
+                return reach(k, w, end, table, head, link, n, count, d);
             }
             return Turn::Breaking;
         }
         PointMove::Fails(letter) => {
-            if window::judge(w, letter) {
-                let after = window::perform(w, letter);
-                return fail(after, count);
+            if w.judge(letter) {
+                w.perform(letter);
+                return fail(w, count);
             }
             return Turn::Breaking;
         }
@@ -234,7 +234,7 @@ fn explore(points: [PointEntry; POINTS], end: usize, table: &mut [u8], n: usize)
 {
     let mut head = [0u16; CHAINS];
     let mut link = [0u16; MOST_PAIRS];
-    let mut w = window::fresh(1);
+    let mut w = Window::fresh(1);
     let mut count: usize = 1;
     let mut d: usize = 0;
     while d < 2 * count {
@@ -279,7 +279,7 @@ pub fn search_pairs(
     if n == 0 {
         return Search::Full;
     }
-    let w = window::fresh(header.registers);
+    let w = Window::fresh(header.registers);
     let pair = records::encode(0, w);
     table::put(table, 0, pair, 0, 0);
     explore(points, end, table, n)

@@ -11,7 +11,6 @@ use records::flagged;
 use states::{MONITOR_SIZE, STREAM_SIZE, monitor_in, put_monitor, put_stream, stream_in};
 use streaming::{StepOutcome, Stepped, byte_stream, starting, stepping};
 use unequal_flags::unequal_word;
-use window::class_count;
 
 // The first byte of a state: what it is.
 const MONITOR: u8 = 1;
@@ -142,7 +141,7 @@ pub extern "C" fn fadzgime_monitor_classes(state: &[u8], answer: &mut [u64])
     }
     if holds(MONITOR, MONITOR_SIZE, state) {
         let monitor = monitor_in(state);
-        let count = class_count(monitor.window) as u64;
+        let count = monitor.window.class_count() as u64;
         let numbers = [0, count];
         store(&numbers, answer);
         return;

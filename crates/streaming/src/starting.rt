@@ -7,13 +7,13 @@ use super::{Monitor, StepOutcome, Stepped};
 use letters::Header;
 use letters::refusal_numbers::HEADER_MALFORMED;
 use letters::words::decode_header;
-use window::fresh;
+use window::Window;
 
 /// What a refused start returns: a stopped monitor without registers, which refuses every letter by 4.
 pub fn idle() -> Monitor
     ensures { result ≡ idle_of }
 {
-    let window = fresh(0);
+    let window = Window::fresh(0);
     Monitor {
         header: Header {
             registers: 0,
@@ -36,7 +36,7 @@ pub fn start(word: u16) -> Stepped
             monitor,
         };
     };
-    let window = fresh(header.registers);
+    let window = Window::fresh(header.registers);
     let monitor = Monitor {
         header,
         window,

@@ -8,29 +8,18 @@ use super::{Monitor, StepOutcome, Stepped};
 use letters::Letter;
 use letters::refusal_numbers::LETTER_MALFORMED;
 use letters::words::decode_letter;
-use window::{judge, perform};
 
 // Judges a letter, and then performs it if it is coherent. An incoherent letter only stops the monitor.
-fn moved(m: Monitor, letter: Letter) -> Monitor
+fn moved(mut m: Monitor, letter: Letter) -> Monitor
     requires { WithinPacking letter }
     ensures { result ≡ moved_of m letter }
 {
     if m.running {
-        let header = m.header;
-        let window = m.window;
-        if judge(window, letter) {
-            let after = perform(window, letter);
-            return Monitor {
-                header,
-                window: after,
-                running: true,
-            };
+        if m.window.judge(letter) {
+            m.window.perform(letter);
+        } else {
+            m.running = false;
         }
-        return Monitor {
-            header,
-            window,
-            running: false,
-        };
     }
     m
 }
