@@ -64,7 +64,7 @@ judge_requires_2 c κs =
     within_fails c.choose-chosen.result c.args.point
     (c.args.d % 2) c.in-Fails.letter c.choose-chosen.ensures c.in-Fails.is c.requires.1
 
-perform_requires_2 : tie.Need-perform-requires-in-Fails
+perform_requires_2 : tie.Need-perform-requires-then-judge-2
 perform_requires_2 c κs =
     within_fails c.choose-chosen.result c.args.point (c.args.d % 2)
     c.in-Fails.letter c.choose-chosen.ensures c.in-Fails.is c.requires.1
@@ -78,10 +78,10 @@ returns_4 c =
     let q = turn_fails a.point a.end a.n a.count a.d a.table.now c.choose-chosen.result c.choose-chosen.ensures
     c.in-Fails.letter a.w c.requires.2 c.judge-in-Fails.result
     c.judge-in-Fails.ensures c.in-Fails.is c.if-judge-2.true
-    c.perform-in-Fails.new.self c.perform-in-Fails.ensures c.fail.result c.fail.ensures in (
+    c.perform-then-judge-2.new.self c.perform-then-judge-2.ensures c.fail.result c.fail.ensures in (
       q.0,
       q.1,
-      keeps_failed _ _ _ _ c.requires.3 c.perform-in-Fails.new.self c.fail.result c.fail.ensures,
+      keeps_failed _ _ _ _ c.requires.3 c.perform-then-judge-2.new.self c.fail.result c.fail.ensures,
     )
 
 returns_5 : tie.Need-returns-in-Fails
