@@ -14,6 +14,7 @@ ghost use Rattle.layout_writer.specs.Tokens.{FirstSpelled, PrintedAs, empty_bloc
 
 use letters::refusal_numbers::PRINT_TOO_LONG;
 use syntax::LONGEST_TEXT;
+use text::Writer;
 use tokens::BYTE_VALUES;
 
 /// No longer print is written.
@@ -43,23 +44,14 @@ fn is_word(token: u64) -> bool
     ensures { result ≡ is_word token }
 {
     let first = (token % BYTE_VALUES) as u8;
-    if tokens::is_letter(first) {
-        return true;
-    }
-    tokens::is_digit(first)
+    tokens::is_letter(first) || tokens::is_digit(first)
 }
 
 // Whether an LF follows a token.
 fn ends_line(token: u64) -> bool
     ensures { result ≡ ends_line token }
 {
-    if token == tokens::SEMICOLON {
-        return true;
-    }
-    if token == tokens::LBRACE {
-        return true;
-    }
-    token == tokens::RBRACE
+    matches!(token, tokens::SEMICOLON | tokens::LBRACE | tokens::RBRACE)
 }
 
 // How the first token at or after `from` that is known by this number is spelled.
@@ -67,6 +59,7 @@ fn first_spelling(text: &[u8], from: usize, key: u64) -> u64
     ensures { FirstSpelled text.now from key result }
 {
     let mut at = from;
+    // no `for`: the next place is where the token ends
     while at < text.len() {
         let t = tokens::next(text, at);
         if t.key == key {
@@ -85,9 +78,10 @@ fn printed_token(text: &[u8], from: usize, key: u64) -> u64
     ensures { PrintedAs text.now from key result }
 {
     if tokens::is_name(key) {
-        return first_spelling(text, from, key);
+        first_spelling(text, from, key)
+    } else {
+        key
     }
-    key
 }
 
 // Whether a block without statements stands at or after a place.
@@ -95,81 +89,85 @@ fn is_empty_block(text: &[u8], from: usize) -> bool
     ensures { result ≡ empty_block_at text.now from }
 {
     let first = tokens::next(text, from);
-    if first.key == tokens::LBRACE {
-        let second = tokens::next(text, first.end);
-        return second.key == tokens::RBRACE;
-    }
-    false
+    first.key == tokens::LBRACE && tokens::next(text, first.end).key == tokens::RBRACE
 }
 
 // Appends the blank before a token, if there is one.
-fn put_blank(out: &mut [u8], at: usize, follows: bool, token: u64) -> usize
-    requires { PlaceInRange at (blank_before follows token) }
-    ensures { Appended out.old at (blank_before follows token) out.new result }
+fn put_blank(writer: &mut Writer, follows: bool, token: u64)
+    requires { PlaceInRange writer.old.at (blank_before follows token) }
+    ensures same_buffer { writer.new.out.ghost_name ≡ writer.old.out.ghost_name }
+    ensures appended { Appended writer.old.out.now writer.old.at (blank_before follows token) writer.new.out.now writer.new.at }
 {
-    if follows {
-        if is_word(token) {
-            return text::put_byte(out, at, SPACE);
-        }
+    if follows && is_word(token) {
+        writer.put_byte(SPACE);
     }
-    at
 }
 
 // Appends the LF behind a token, if there is one.
-fn put_line_end(out: &mut [u8], at: usize, token: u64) -> usize
-    requires { PlaceInRange at (line_end token) }
-    ensures { Appended out.old at (line_end token) out.new result }
+fn put_line_end(writer: &mut Writer, token: u64)
+    requires { PlaceInRange writer.old.at (line_end token) }
+    ensures same_buffer { writer.new.out.ghost_name ≡ writer.old.out.ghost_name }
+    ensures appended { Appended writer.old.out.now writer.old.at (line_end token) writer.new.out.now writer.new.at }
 {
     if ends_line(token) {
-        return text::put_byte(out, at, LINE_FEED);
+        writer.put_byte(LINE_FEED);
     }
-    at
 }
 
 // Appends a token with the blank before it and the LF behind it.
-fn put_token(out: &mut [u8], at: usize, follows: bool, token: u64) -> usize
-    requires { PlaceInRange at (blank_before follows token ++ (name_text token ++ line_end token)) }
-    ensures { Appended out.old at (blank_before follows token ++ (name_text token ++ line_end token)) out.new result }
+fn put_token(writer: &mut Writer, follows: bool, token: u64)
+    requires { PlaceInRange writer.old.at (blank_before follows token ++ (name_text token ++ line_end token)) }
+    ensures same_buffer { writer.new.out.ghost_name ≡ writer.old.out.ghost_name }
+    ensures appended { Appended writer.old.out.now writer.old.at (blank_before follows token ++ (name_text token ++ line_end token))
+        writer.new.out.now writer.new.at }
 {
-    let start = put_blank(out, at, follows, token);
-    let end = text::put_name(out, start, token);
-    put_line_end(out, end, token)
+    put_blank(writer, follows, token);
+    writer.put_name(token);
+    put_line_end(writer, token);
 }
 
 // Whether a token that is known by `key` and ends at `end` begins an else without statements.
 fn is_empty_else(text: &[u8], key: u64, end: usize) -> bool
     ensures { result ≡ (eqb key word.else_key && empty_block_at text.now end) }
 {
-    if key == tokens::ELSE {
-        return is_empty_block(text, end);
-    }
-    false
+    key == tokens::ELSE && is_empty_block(text, end)
 }
 
-// Puts the print of a text's macro into the front of a buffer, as far as the buffer goes, and answers how long it is.
-fn put_tokens(text: &[u8], out: &mut [u8]) -> usize
-    requires { length text.now ≤ longest_text }
-    ensures { LaysOut text.now out.old result out.new }
+// Appends the print of a text's macro at the front of a buffer.
+fn put_tokens(text: &[u8], writer: &mut Writer)
+    requires short { length text.now ≤ longest_text }
+    requires front { writer.old.at ≡ 0 }
+    ensures same_buffer { writer.new.out.ghost_name ≡ writer.old.out.ghost_name }
+    ensures laid { LaysOut text.now writer.old.out.now writer.new.at writer.new.out.now }
 {
     let names = tokens::skip_tokens(text, 0, BEFORE_NAMES);
     let mut at: usize = 0;
-    let mut size: usize = 0;
     let mut follows = false;
+    // no `for`: the next place is where the token ends
     while at < text.len() {
         let t = tokens::next(text, at);
         if t.key <= tokens::WRONG {
-            return size;
+            return;
         }
         if is_empty_else(text, t.key, t.end) {
             at = tokens::skip_tokens(text, t.end, EMPTY_BLOCK);
         } else {
             let token = printed_token(text, names, t.key);
-            size = put_token(out, size, follows, token);
+            put_token(writer, follows, token);
             follows = is_word(token);
             at = t.end;
         }
     }
-    size
+}
+
+// Puts the print of a text's macro into the front of a buffer, as far as the buffer goes, and answers how long it is.
+fn lay_out(text: &[u8], out: &mut [u8]) -> usize
+    requires { length text.now ≤ longest_text }
+    ensures { LaysOut text.now out.old result out.new }
+{
+    let mut writer = Writer::new(out);
+    put_tokens(text, &mut writer);
+    writer.at
 }
 
 /// Prints the macro of a text in the house layout into the front of a lent buffer. Nothing is written on a refusal: by 7 to 13 or 16 as the
@@ -183,12 +181,9 @@ pub fn write_layout(text: &[u8], out: &mut [u8]) -> LayoutWritten
         return LayoutWritten::Refused(refusal, read.place);
     }
     // the print is measured before a byte of it is written
-    let size = put_tokens(text, &mut out[..0]);
-    if LONGEST_PRINT < size {
+    let size = lay_out(text, &mut []);
+    if LONGEST_PRINT < size || out.len() < size {
         return LayoutWritten::Refused(PRINT_TOO_LONG, 0);
     }
-    if out.len() < size {
-        return LayoutWritten::Refused(PRINT_TOO_LONG, 0);
-    }
-    LayoutWritten::Printed(put_tokens(text, out))
+    LayoutWritten::Printed(lay_out(text, out))
 }

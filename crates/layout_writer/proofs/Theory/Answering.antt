@@ -1,14 +1,13 @@
 -- The writer's answer: a refusal of the reader, the number of a print that is too long, or the print.
-use mathlib.Core.Path.{◌≡◌, refl, ap, ◌∙◌, subst}
+use mathlib.Core.Path.{◌≡◌, refl, ap, ◌∙◌}
 use mathlib.Core.Logic.{inl, inr}
 use Prim.Native.Nat.{ℕ, ◌+◌, ◌≤◌, ◌<◌}
 use native.Mathlib.Omega.{arith}
 use mathlib.Core.Bool.{true}
-use mathlib.Core.List.{List, [], ◌∷◌, ◌++◌}
+use mathlib.Core.List.{List, [], ◌++◌}
 use lib.ListN.{length, drop}
 use Rattle.letters.specs.MacroRefusalNumbers.{print_too_long}
-use Rattle.text.specs.Appending.{Appended}
-use Rattle.text.proofs.Theory.Appending.{stored_between, appended_length}
+use Rattle.text.proofs.Theory.Appending.{stored_between}
 use Rattle.grammar.specs.Limits.{longest_text}
 use Rattle.grammar.specs.Grammar.{Macro}
 use Rattle.refusals.specs.Accepted.{Accepted}
@@ -19,10 +18,6 @@ use Rattle.layout_theory.specs.Layout.{house_layout, longest_print}
 use Rattle.layout_theory.specs.Writing.{LayoutAnswer, printed, refused, print_fits, answer_for, buffer_for, WritesLayout}
 use Rattle.layout_theory.proofs.Theory.Settled.{PrintPasses, passes_unfit, short_fits}
 use Rattle.layout_writer.specs.Tokens.{LaysOut}
-
-no_length : (l : List ℕ) → length l ≡ 0 → l ≡ []
-no_length [] e = refl
-no_length (x ∷ l) e = absurd (omega arith)
 
 module _ (s entry : List ℕ) (read : MacroRead) (R : Reads s read) where
   pub refusal_answered : (read.refusal ≡ 0 → ⊥) → WritesLayout s entry (refused read.refusal read.place) entry
@@ -36,13 +31,8 @@ module _ (s entry : List ℕ) (read : MacroRead) (R : Reads s read) where
     pub text_short : length s ≤ longest_text
     text_short = (R.accepted h).1.short
 
-    -- the print was measured in an empty buffer, which stands before the lent one again
+    -- the print was measured in a buffer that has no bytes
     module _ (none : List ℕ) (size : ℕ) (L : LaysOut s [] size none) where
-      buffer_kept : none ++ entry ≡ entry
-      buffer_kept =
-          let (m, A, e) = R.accepted h in
-          ap (λ l. l ++ entry) (no_length none (appended_length (L.print m A)))
-
       measured : (m : Macro) → Accepted s m → length (house_layout m) ≡ size
       measured m A = omega (arith, (L.print m A).place)
 
@@ -51,28 +41,27 @@ module _ (s entry : List ℕ) (read : MacroRead) (R : Reads s read) where
           → WritesLayout s entry r exit
       answer r exit a b = record { unread = λ n p q. absurd (never_both s (R.accepted h).1 q); answered = a; bytes = b }
 
-      passes : ((m : Macro) → Accepted s m → PrintPasses (house_layout m) entry) → WritesLayout s entry (refused print_too_long 0) (none ++ entry)
-      passes f = answer (refused print_too_long 0) (none ++ entry) (λ m A. rw (passes_unfit (house_layout m) entry (f m A)))
-          λ m A. buffer_kept ∙ rw (passes_unfit (house_layout m) entry (f m A))
+      passes : ((m : Macro) → Accepted s m → PrintPasses (house_layout m) entry) → WritesLayout s entry (refused print_too_long 0) entry
+      passes f = answer (refused print_too_long 0) entry (λ m A. rw (passes_unfit (house_layout m) entry (f m A)))
+          λ m A. rw (passes_unfit (house_layout m) entry (f m A))
 
-      pub passes_limit : longest_print < size → WritesLayout s entry (refused print_too_long 0) (none ++ entry)
+      pub passes_limit : longest_print < size → WritesLayout s entry (refused print_too_long 0) entry
       passes_limit l = passes λ m A. inr (omega (arith, measured m A))
 
-      pub passes_buffer : length (none ++ entry) < size → WritesLayout s entry (refused print_too_long 0) (none ++ entry)
-      passes_buffer l = passes λ m A. inl (omega (arith, measured m A, ap (λ l. length l) buffer_kept))
+      pub passes_buffer : length entry < size → WritesLayout s entry (refused print_too_long 0) entry
+      passes_buffer l = passes λ m A. inl (omega (arith, measured m A))
 
-      pub print_answered : size ≤ longest_print → size ≤ length (none ++ entry) → (next : ℕ) (exit : List ℕ) → LaysOut s (none ++ entry) next exit
+      pub print_answered : size ≤ longest_print → size ≤ length entry → (next : ℕ) (exit : List ℕ) → LaysOut s entry next exit
           → WritesLayout s entry (printed next) exit
       print_answered l k next exit P = answer (printed next) exit
           (λ m A. rw (fits m A) (ap printed (let e : next ≡ length (house_layout m) = omega (arith, (P.print m A).place) in e)))
           λ m A. rw (fits m A) (stands m A)
         where
           fits : (m : Macro) → Accepted s m → print_fits (house_layout m) entry ≡ true
-          fits m A = short_fits (house_layout m) entry (omega (arith, measured m A, ap (λ l. length l) buffer_kept)) (omega (arith, measured m A))
+          fits m A = short_fits (house_layout m) entry (omega (arith, measured m A)) (omega (arith, measured m A))
 
           stands : (m : Macro) → Accepted s m → exit ≡ house_layout m ++ drop (length (house_layout m)) entry
           stands m A =
               let print = house_layout m in
-              let a : Appended entry 0 print exit next = subst (λ l. Appended l 0 print exit next) buffer_kept (P.print m A) in
-              a.bytes ∙ stored_between entry 0 print (omega (arith, measured m A, ap (λ l. length l) buffer_kept))
+              (P.print m A).bytes ∙ stored_between entry 0 print (omega (arith, measured m A))
               ∙ ap (λ n. print ++ drop n entry) (let e : 0 + length print ≡ length print = omega arith in e)

@@ -1,13 +1,11 @@
--- What the writer finds in a text: a block without statements, and the first token that is known by a number.
+-- What the writer finds in a text: the first token that is known by a number.
 use mathlib.Core.Path.{◌≡◌, refl, sym, ap, ◌∙◌, subst}
 use mathlib.Core.Logic.{◌⊎◌, inl, inr}
 use Prim.Native.Nat.{ℕ, suc, ◌+◌, ◌≤◌, ◌<◌}
 use native.Mathlib.Omega.{arith}
 use mathlib.Core.Bool.{Bool, true, false}
 use mathlib.Core.List.{List}
-use lib.Dec.{eqb}
 use lib.ListN.{length, drop}
-use borrow.Author.Tests.{eq-eqb, ne_eqb}
 use Rattle.macros.proofs.Theory.Numbers.{three}
 use Rattle.tokens.specs.Words.{is_name}
 use Rattle.tokens.specs.Words as word
@@ -16,14 +14,7 @@ use Rattle.tokens.specs.Tokens.{token, token_at, place_behind}
 use Rattle.tokens.specs.declared.Token.{Token}
 use Rattle.tokens.proofs.Theory.TokensLaws.{token_advance, token_end}
 use Rattle.refusals.proofs.Theory.Basics.{clash}
-use Rattle.layout_writer.specs.Tokens.{token_behind, IsFirst, FirstSpelled, PrintedAs, empty_block_at}
-
-module _ (s : List ℕ) (at : ℕ) (t : Token) where
-  pub block_opens : (u : Token) → t ≡ token_at s at → u ≡ token_at s t.end → t.key ≡ word.lbrace_key → eqb u.key word.rbrace_key ≡ empty_block_at s at
-  block_opens u e f h = rw (← e, ← f, eq-eqb t.key word.lbrace_key h)
-
-  pub block_missing : t ≡ token_at s at → (t.key ≡ word.lbrace_key → ⊥) → false ≡ empty_block_at s at
-  block_missing e h = rw (← e, ne_eqb t.key word.lbrace_key h)
+use Rattle.layout_writer.specs.Tokens.{token_behind, IsFirst, FirstSpelled, PrintedAs}
 
 -- ---- the first token that is known by k
 

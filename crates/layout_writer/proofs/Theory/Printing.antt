@@ -16,7 +16,7 @@ use Rattle.tokens.specs.declared.Token.{Token}
 use Rattle.tokens.proofs.Theory.TokensLaws.{token_advance}
 use Rattle.text.specs.Appending.{Appended, PlaceInRange}
 use Rattle.text.specs.Names.{name_text}
-use Rattle.text.proofs.Theory.Appending.{LeftToAppend, left_all, left_next, left_none, left_same, appended_length}
+use Rattle.text.proofs.Theory.Appending.{LeftToAppend, left_all, left_next, left_none, left_same}
 use Rattle.text.proofs.Theory.Names.{name_length}
 use Rattle.grammar.specs.Limits.{longest_text}
 use Rattle.grammar.specs.Grammar.{Macro, sentence}
@@ -176,12 +176,11 @@ module _ (s all entry : List ℕ) (at : ℕ) (follows : Bool) (now : List ℕ) (
 abbrev pub most_put : ℕ
 most_put = longest_name + 2
 
--- So far at most `most_put` bytes were put for each byte of the text, and the buffer is as long as it was.
-pub record WithinBounds (s entry : List ℕ) (at size : ℕ) (now : List ℕ) : Type 0 where
+-- So far at most `most_put` bytes were put for each byte of the text.
+pub record WithinBounds (s : List ℕ) (at size : ℕ) : Type 0 where
   pub text : length s ≤ longest_text
   pub place : at ≤ length s
   pub few : size ≤ most_put * at
-  pub buffer : length now ≡ length entry
 
 put_length : (follows : Bool) (w : ℕ) → w < 2 ^ 64 → length (put_text follows w) ≤ most_put
 put_length follows w h =
@@ -202,7 +201,7 @@ put_length follows w h =
     line-length true = omega arith
     line-length false = omega arith
 
-module _ (s entry : List ℕ) (at size : ℕ) (now : List ℕ) (B : WithinBounds s entry at size now) where
+module _ (s : List ℕ) (at size : ℕ) (B : WithinBounds s at size) where
   pub put_room : (follows : Bool) (w : ℕ) → w < 2 ^ 64 → PlaceInRange size (put_text follows w)
   put_room follows w h = record { fits = omega (arith, put_length follows w h, B.text, B.place, B.few) }
 
@@ -210,22 +209,21 @@ module _ (s entry : List ℕ) (at size : ℕ) (now : List ℕ) (B : WithinBounds
     further : (at < t.end) × (t.end ≤ length s)
     further = goes_further s at t e real
 
-    pub put_within : (follows : Bool) (w : ℕ) → w < 2 ^ 64 → (exit : List ℕ) (next : ℕ) → Appended now size (put_text follows w) exit next
-        → WithinBounds s entry t.end next exit
-    put_within follows w h exit next a = record {
+    pub put_within : (follows : Bool) (w : ℕ) → w < 2 ^ 64 → (now exit : List ℕ) (next : ℕ) → Appended now size (put_text follows w) exit next
+        → WithinBounds s t.end next
+    put_within follows w h now exit next a = record {
       text = B.text;
       place = further.1;
       few = omega (arith, a.place, put_length follows w h, B.few, further.0);
-      buffer = appended_length a ∙ B.buffer;
     }
 
     -- behind an else without statements
     pub drop_within : (r : Bool) → r ≡ (eqb t.key word.else_key && empty_block_at s t.end) → r ≡ true
-        → (behind : ℕ) → behind ≡ place_behind s t.end empty_block → (at < behind) × WithinBounds s entry behind size now
+        → (behind : ℕ) → behind ≡ place_behind s t.end empty_block → (at < behind) × WithinBounds s behind size
     drop_within r test f behind q =
         let (a, b) = and_true (eqb t.key word.else_key) (empty_block_at s t.end) (sym test ∙ f) in
         let (c, d) = and_true (eqb (token_at s t.end).key word.lbrace_key) (eqb (token_at s (token_at s t.end).end).key word.rbrace_key) b in
         let opens = token_advance s t.end (rw (eqb-true (token_at s t.end).key word.lbrace_key c) (omega arith)) in
         let closes = token_advance s (token_at s t.end).end (rw (eqb-true (token_at s (token_at s t.end).end).key word.rbrace_key d) (omega arith)) in
         let past : at < behind = omega (arith, q, further.0, opens.0, closes.0) in
-        (past, record { text = B.text; place = omega (arith, q, closes.1); few = omega (arith, B.few); buffer = B.buffer })
+        (past, record { text = B.text; place = omega (arith, q, closes.1); few = omega (arith, B.few) })
