@@ -17,10 +17,8 @@ fn named_rows(class: &[Mask; REGISTERS], unequal: &[Mask; REGISTERS]) -> [Mask; 
 {
     let named = names(class);
     let mut rows: [Mask; REGISTERS] = [0; REGISTERS];
-    let mut a: usize = 0;
-    while a < REGISTERS {
-        rows[a] = part(named, unequal[a] & named, a);
-        a = a + 1;
+    for (a, row) in rows.iter_mut().enumerate() {
+        *row = part(named, unequal[a] & named, a);
     }
     rows
 }
@@ -30,8 +28,5 @@ pub fn unequal_word(w: Window) -> u64
     ensures value { result ≡ unequal_word registers w 0 }
     ensures means { (σ : State) → Valid σ → IsWindow σ w → WordOfState σ result }
 {
-    let class = w.class;
-    let unequal = w.unequal;
-    let rows = named_rows(&class, &unequal);
-    joined_rows(&rows)
+    joined_rows(&named_rows(&w.class, &w.unequal))
 }

@@ -5,7 +5,7 @@ use mathlib.Core.Logic.{◌↔◌, ◌⊎◌, inl, inr, ⊎_elim, ◌≢◌}
 use Prim.Native.Nat.{ℕ, ◌+◌, ◌*◌, ◌/◌, ◌%◌, ◌≤◌, ◌<◌}
 use native.Mathlib.Omega.{arith}
 use lib.Dec.{T}
-use Rattle.base.specs.Masks.{bit, has}
+use Rattle.base.specs.Masks.{has}
 use Rattle.base.proofs.Theory.MaskLaws.{bits_same}
 use Rattle.semantics.specs.Terms.{State}
 use Rattle.semantics.specs.Facts.{Valid}
