@@ -3,7 +3,6 @@ ghost use Rattle.std.specs.Prelude.{◌≡◌, ◌+◌, ◌^◌, ◌<◌, get_or
 ghost use Rattle.report.specs.Shown.{letter_or_copy};
 ghost use Rattle.report.specs.Shown.{word_at, row_in, word_values};
 
-use super::WORD_VALUES;
 use letters::{Header, Letter};
 use traces::letter_at;
 
@@ -12,15 +11,6 @@ pub const WORD_BYTES: usize = 2;
 
 /// The bytes of a row.
 pub const ROW_BYTES: usize = 5;
-
-// The last of them.
-const ROW_END: usize = ROW_BYTES - 1;
-
-// What a byte counts that stands before one byte.
-const BYTE: u64 = 256;
-
-// What a word counts that stands before a word.
-const WORD: u64 = WORD_VALUES as u64;
 
 // The byte at `at`.
 fn byte_at(bytes: &[u8], at: usize) -> u8
@@ -42,9 +32,16 @@ pub fn row_at(bytes: &[u8], at: usize) -> u64
     requires { at + 4 < 2 ^ 64 }
     ensures { result ≡ row_in bytes.now at }
 {
-    let first = word_at(bytes, at);
-    let second = word_at(bytes, at + WORD_BYTES);
-    (first * WORD + second) * BYTE + u64::from(byte_at(bytes, at + ROW_END))
+    u64::from_be_bytes([
+        0,
+        0,
+        0,
+        byte_at(bytes, at),
+        byte_at(bytes, at + 1),
+        byte_at(bytes, at + 2),
+        byte_at(bytes, at + 3),
+        byte_at(bytes, at + 4),
+    ])
 }
 
 /// Letter k.

@@ -72,39 +72,9 @@ two [] = refl
 two (a ∷ []) = omega arith
 two (a ∷ b ∷ s) = omega arith
 
-five : (s : List ℕ) → join (8 ∷ 8 ∷ 8 ∷ 8 ∷ 8 ∷ []) (take 5 s)
-    ≡ (((get_or s 0 0 * 256 + get_or s 1 0) * 256 + get_or s 2 0) * 256 + get_or s 3 0) * 256 + get_or s 4 0
-five [] = refl
-five (a ∷ []) = omega arith
-five (a ∷ b ∷ []) = omega arith
-five (a ∷ b ∷ c ∷ []) = omega arith
-five (a ∷ b ∷ c ∷ d ∷ []) = omega arith
-five (a ∷ b ∷ c ∷ d ∷ e ∷ s) = omega arith
-
 module _ (s : List ℕ) (at : ℕ) where
   pub word_bytes : join (8 ∷ 8 ∷ []) (take 2 (drop at s)) ≡ get_or s at 0 * 256 + get_or s (at + 1) 0
   word_bytes = two (drop at s) ∙ rw (get_or-drop at s 0 0, get_or-drop at s 1 0, add-zero at)
-
-  pub row_bytes : join (8 ∷ 8 ∷ 8 ∷ 8 ∷ 8 ∷ []) (take 5 (drop at s))
-      ≡ (((get_or s at 0 * 256 + get_or s (at + 1) 0) * 256 + get_or s (at + 2) 0) * 256 + get_or s (at + 3) 0) * 256 + get_or s (at + 4) 0
-  row_bytes = five (drop at s) ∙ rw (get_or-drop at s 0 0, get_or-drop at s 1 0, get_or-drop at s 2 0, get_or-drop at s 3 0, get_or-drop at s 4 0, add-zero at)
-
--- The five bytes as two words and a byte.
-pub row_words : (s : List ℕ) (at : ℕ) {a b c : ℕ} → a ≡ join (8 ∷ 8 ∷ []) (take 2 (drop at s)) → b ≡ join (8 ∷ 8 ∷ []) (take 2 (drop (at + 2) s))
-    → c ≡ get_or s (at + 4) 0
-    → (a * 65536 + b) * 256 + c ≡ join (8 ∷ 8 ∷ 8 ∷ 8 ∷ 8 ∷ []) (take 5 (drop at s))
-row_words s at p q r =
-    ap₃ (λ (x y z : ℕ). (x * 65536 + y) * 256 + z) (p ∙ word_bytes s at) (q ∙ word_bytes s (at + 2)) r
-    ∙ regroup (get_or s at 0) (get_or s (at + 1) 0) (get_or s (at + 2) 0) (get_or s (at + 4) 0) (ap (λ (j : ℕ). get_or s j 0) (three at)) ∙ sym (row_bytes s at)
-  where
-    ap₃ : (f : ℕ → ℕ → ℕ → ℕ) {x y z u v w : ℕ} → x ≡ u → y ≡ v → z ≡ w → f x y z ≡ f u v w
-    ap₃ f p q r = λ i. f (p i) (q i) (r i)
-
-    three : (at : ℕ) → at + 2 + 1 ≡ at + 3
-    three at = omega arith
-
-    regroup : (a b c e : ℕ) {d d' : ℕ} → d ≡ d' → ((a * 256 + b) * 65536 + (c * 256 + d)) * 256 + e ≡ (((a * 256 + b) * 256 + c) * 256 + d') * 256 + e
-    regroup a b c e q = omega arith
 
 -- ── the model's parts, as they are read ──
 -- The second argument of a row that was read is written as it stood, and as 0 for a function of one argument.
