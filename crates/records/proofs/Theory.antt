@@ -1,5 +1,4 @@
 pub mod Digits
-pub mod Words
 pub mod Tables
 pub mod FormatLaws
 pub mod Agree

@@ -2,17 +2,18 @@
 use mathlib.Core.Path.{◌≡◌, refl, sym, ap, ap₂, ◌∙◌, subst}
 use Prim.Native.Nat.{ℕ, zero, suc, ◌+◌, ◌-◌, ◌*◌, ◌/◌, ◌%◌, ◌^◌, ◌≤◌, ◌<◌}
 use native.Mathlib.Omega.{arith}
-use native.Mathlib.Nat.{add_assoc, zero-div, div-one, mod-eq_of_lt, mod-lt}
+use native.Mathlib.Nat.{add_assoc, zero-div, div-one, mod-lt}
 use native.Mathlib.Numerals.{add-one}
-use mathlib.Core.Bool.{Bool, true, false}
+use mathlib.Core.Bool.{Bool, true, false, not}
+use mir.Val.{bool_byte}
 use mathlib.Core.List.{List, [], ◌∷◌, ◌++◌, map, append-nil, append_assoc}
 use lib.Count.{trailing_le}
 use lib.Dec.{eqb, ltb}
-use lib.ListN.{length, get_or, set, take, drop, replicate, length-append, length-drop, length-take, take-append-drop, drop_of_length-le, get_or-replicate}
+use lib.ListN.{length, get_or, set, take, drop, replicate, length-append, length-drop, get_or-replicate}
 use lib.ListN.{length-replicate, get_or-append, get_or-eq_default}
-use lib.Seq.{paste, paste-suc, take_all, take_at, drop_at, set_at, append_snoc, drop-cons, drop-drop, drop-append-add, get_or-append-add}
-use lib.Seq.{get_or-drop, get_or-take, length-take-le, take-add, take-append-le}
-use borrow.Author.Tests.{eq-eqb, eqb-true, eqb-false, ltb-true, ltb-false}
+use lib.Seq.{take_all, take_at, drop_at, set_at, append_snoc, drop-cons, drop-drop, drop-append-add, get_or-append-add}
+use lib.Seq.{get_or-drop, get_or-take, length-take-le, take-add}
+use borrow.Author.Tests.{eq-eqb, ne_eqb, eqb-true, eqb-false, ltb-true, ltb-false}
 use Rattle.base.specs.Bytes.{little_endian}
 use Rattle.base.proofs.Theory.Choice.{by_test}
 use Rattle.base.specs.Masks.{bit}
@@ -20,9 +21,7 @@ use Rattle.base.proofs.Theory.MaskLaws.{trailing_least}
 use Rattle.letters.specs.Packing.{join}
 use Rattle.semantics.specs.PackedTables.{units}
 use Rattle.semantics.specs.TablesRead.{units_in}
-use Rattle.base.proofs.Theory.Written.{WrittenUpTo}
-use Rattle.traces.proofs.Theory.TraceLaws.{units_length}
-use Rattle.window.proofs.Theory.Table.{written_all, table_at, table_length, table_is, Swept, swept_none, swept_more, swept_all}
+use Rattle.window.proofs.Theory.Table.{table_at, table_length, table_is, Swept, swept_more, swept_all}
 use Rattle.window.specs.Table.{table}
 use Rattle.window.specs.Layout.{registers}
 use Rattle.window.specs.Counting.{counted_classes}
@@ -32,17 +31,13 @@ use Rattle.records.proofs.Theory.Digits.{All<, units_one, bytes_in, gathered_len
 use Rattle.records.proofs.Theory.FormatLaws.{all_of, all_map}
 use Rattle.records.specs.Formats as formats
 use Rattle.records.specs.Formats.{number_in, flag, is_set, mix, mixed, spread, same_front, content_place}
-use Rattle.records.proofs.Theory.Pairs.{front_is}
-use Rattle.records.specs.Records.{first_format, empty_line, code_bytes, parts_of, fingerprint_of, encoded, record_of, record_bytes, encoded_bytes}
+use Rattle.std.specs.Int.{w64, rotate_left}
+use Rattle.std.specs.Int.Bits.{bit_xor, bit_and, bit_or}
+use Rattle.std.specs.List.{starts_with}
+use Rattle.std.proofs.lemmas.Nat.{or_disjoint, and_block, and_le_l, and_le_r}
+use Rattle.records.specs.Records.{first_format, empty_line, code_bytes, fingerprint_of, encoded, record_of, record_bytes, encoded_bytes}
 use Rattle.records.specs.Records.{codes_at, meanings_of, results_meant, ever_in, window_in}
-use Rattle.records.specs.Words.{octets_of, words_in}
-use Rattle.records.proofs.Theory.Words.{octets_back}
-
-pub lay_turn : (d s e : List ℕ) (at i : ℕ) → at + i < length d → i < length s → e ≡ paste d at s i → set e (at + i) (get_or s i 0) ≡ paste d at s (i + 1)
-lay_turn d s e at i h g p = rw (p, add-one) (paste-suc d at s i 0 h g)
-
-pub lay_end : (d s e : List ℕ) (at i : ℕ) → i ≡ length s → e ≡ paste d at s i → e ≡ take at d ++ s ++ drop (at + length s) d
-lay_end d s e at i h p = rw (p, h, take_all (length s) s (omega arith))
+use Rattle.records.specs.Words.{words_in}
 
 -- ---- words
 
@@ -57,30 +52,9 @@ four_taken s at h =
     ∙ ap (λ l. get_or s (at + 1) 0 ∷ l) (taken s (at + 2) (at + 3) 1 (omega arith) (omega arith)
     ∙ ap (λ l. get_or s (at + 2) 0 ∷ l) (taken s (at + 3) (at + 4) 0 (omega arith) (omega arith))))
 
-pub half_made : (s : List ℕ) (at a b c d : ℕ) → at + 4 ≤ length s
-    → a ≡ get_or s at 0 → b ≡ get_or s (at + 1) 0 → c ≡ get_or s (at + 2) 0 → d ≡ get_or s (at + 3) 0 → a < 256 → b < 256 → c < 256 → d < 256
-    → (a + b * 256 + c * 65536 + d * 16777216 ≡ little_endian (take 4 (drop at s)))
-    × ((octets_of 4 (a + b * 256 + c * 65536 + d * 16777216) ≡ take 4 (drop at s)) × (a + b * 256 + c * 65536 + d * 16777216 < 4294967296))
-half_made s at a b c d h p q r t u v x y =
-    let e : take 4 (drop at s) ≡ a ∷ b ∷ c ∷ d ∷ [] = four_taken s at h ∙ rw (p, q, r, t) in
-    let n : a + b * 256 + c * 65536 + d * 16777216 ≡ little_endian (a ∷ b ∷ c ∷ d ∷ []) = omega arith in
-    (n ∙ ap (little_endian) (sym e), (ap (octets_of 4) n ∙ octets_back (a ∷ b ∷ c ∷ d ∷ []) (u, (v, (x, (y, tt)))) ∙ sym e, omega arith))
-
 eight_joined : (a b c d e f g h : ℕ) → little_endian (a ∷ b ∷ c ∷ d ∷ []) + little_endian (e ∷ f ∷ g ∷ h ∷ []) * 4294967296 ≡ little_endian
     (a ∷ b ∷ c ∷ d ∷ e ∷ f ∷ g ∷ h ∷ [])
 eight_joined a b c d e f g h = omega arith
-
-pub word_made : (s : List ℕ) (at h l : ℕ) → h ≡ little_endian (take 4 (drop at s)) → octets_of 4 h ≡ take 4 (drop at s)
-    → l ≡ little_endian (take 4 (drop (at + 4) s)) → octets_of 4 l ≡ take 4 (drop (at + 4) s)
-    → (h + l * 4294967296 ≡ little_endian (take 8 (drop at s))) × (octets_of 8 (h + l * 4294967296) ≡ take 8 (drop at s))
-word_made s at h l p q r t =
-    let e : take 8 (drop at s) ≡ octets_of 4 h ++ octets_of 4 l = take-add 4 4 (drop at s)
-    ∙ ap (λ m. take 4 (drop at s) ++ take 4 m) (drop-drop 4 at s) ∙ rw (← q, ← t) in
-    let m : h + l * 4294967296 ≡ little_endian (octets_of 4 h ++ octets_of 4 l) =
-    ap₂ (λ x y. x + y * 4294967296) (p ∙ ap (little_endian) (sym q)) (r ∙ ap (little_endian) (sym t)) ∙ eight_joined _ _ _ _ _ _ _ _ in
-    let z : (n : ℕ) → n % 256 < 256 = (λ n. mod-lt n (omega arith)) in
-    let sized : All< 256 (octets_of 4 h ++ octets_of 4 l) = (z _, (z _, (z _, (z _, (z _, (z _, (z _, (z _, tt)))))))) in
-    (m ∙ ap (little_endian) (sym e), ap (octets_of 8) m ∙ octets_back (octets_of 4 h ++ octets_of 4 l) sized ∙ sym e)
 
 -- a number is 0 only if its bytes are
 four_none : (s : List ℕ) (at : ℕ) → at + 4 ≤ length s → little_endian (take 4 (drop at s)) ≡ 0 → (k : ℕ) → at ≤ k → k < at + 4 → get_or s k 0 ≡ 0
@@ -118,12 +92,27 @@ module _ (F : ℕ → ℕ) (old : List ℕ) where
     ahead = λ k b. w.ahead k (omega arith);
   }
 
-pub swept_begin : (F : ℕ → ℕ) (n : ℕ) (l : List ℕ) → l ≡ replicate n 0 → Swept F 0 (replicate n 0) 0 l
-swept_begin F n l e = subst (Swept F 0 (replicate n 0) 0) (sym e) (swept_none F 0 (replicate n 0))
+pub swept_moved : (F : ℕ → ℕ) (old : List ℕ) (i k : ℕ) (l : List ℕ) → i ≡ k → Swept F 0 old i l → Swept F 0 old k l
+swept_moved F old i k l e w = subst (λ (n : ℕ). Swept F 0 old n l) e w
 
 pub swept_zeros : (F : ℕ → ℕ) (n i : ℕ) (l : List ℕ) → Swept F 0 (replicate n 0) i l → n ≤ i → l ≡ table F n
 swept_zeros F n i l w h = subst (λ (m : ℕ). l ≡ table F m) (length-replicate {A = ℕ} n 0)
     (swept_all F 0 (replicate n 0) i l w (rw (length-replicate {A = ℕ} n 0) h))
+
+-- ---- flags
+
+pub flag-bool : (b : Bool) → bool_byte b ≡ flag b
+unfolding flag
+flag-bool true = refl
+flag-bool false = refl
+
+pub tested : (b x y : ℕ) → b < 256 → x ≡ bool_byte (not (eqb (b / 16) 0)) → y ≡ bool_byte (not (eqb (b % 16) 0))
+    → x + 2 * y ≡ computed_of (b / 16 % 16) + 2 * computed_of (b % 16)
+unfolding computed_of
+tested b x y l p q =
+    let e : b / 16 % 16 ≡ b / 16 = omega arith in
+    rw (e, p, q) (by_test (eqb (b / 16) 0) (λ t. by_test (eqb (b % 16) 0) (λ u. rw (t, u)) λ u. rw (t, u))
+    λ t. by_test (eqb (b % 16) 0) (λ u. rw (t, u)) λ u. rw (t, u))
 
 -- ---- codes
 
@@ -176,29 +165,14 @@ module _ (result ever : List ℕ) where
   abbrev blanks : List ℕ
   blanks = replicate 128 0
 
-  pub codes_turn : (codes : List ℕ) (j line c₀ c₁ c₂ c₃ : ℕ) → j < 32 → line ≡ get_or ever j 0
-      → c₀ ≡ 16 * code_of 8 (get_or result (8 * j) 0) (bit line 0) + code_of 8 (get_or result (8 * j + 1) 0) (bit line 1)
-      → c₁ ≡ 16 * code_of 8 (get_or result (8 * j + 2) 0) (bit line 2) + code_of 8 (get_or result (8 * j + 3) 0) (bit line 3)
-      → c₂ ≡ 16 * code_of 8 (get_or result (8 * j + 4) 0) (bit line 4) + code_of 8 (get_or result (8 * j + 5) 0) (bit line 5)
-      → c₃ ≡ 16 * code_of 8 (get_or result (8 * j + 6) 0) (bit line 6) + code_of 8 (get_or result (8 * j + 7) 0) (bit line 7)
-      → Swept (code_byte result ever) 0 blanks (4 * j) codes
-      → Swept (code_byte result ever) 0 blanks (4 * (j + 1)) (set (set (set (set codes (4 * j) c₀) (4 * j + 1) c₁) (4 * j + 2) c₂) (4 * j + 3) c₃)
-  codes_turn codes j line c₀ c₁ c₂ c₃ h e p q r s w =
-      let F = code_byte result ever in
-      let l₀ = codes in
-      let l₁ = set l₀ (4 * j) c₀ in
-      let l₂ = set l₁ (4 * j + 1) c₁ in
-      let l₃ = set l₂ (4 * j + 2) c₂ in
-      let w₁ = swept_at F blanks (4 * j) (4 * j) l₀ c₀ refl w (omega arith)
-      (byte_is result ever (4 * j) j _ _ 0 1 line c₀ (omega arith) (omega arith) (omega arith) (omega arith) (omega arith) e p) in
-      let w₂ = swept_at F blanks (4 * j + 1) (4 * j + 1) l₁ c₁ refl w₁ (omega arith)
-      (byte_is result ever (4 * j + 1) j _ _ 2 3 line c₁ (omega arith) (omega arith) (omega arith) (omega arith) (omega arith) e q) in
-      let w₃ = swept_at F blanks (4 * j + 1 + 1) (4 * j + 2) l₂ c₂ (omega arith) w₂ (omega arith)
-      (byte_is result ever (4 * j + 1 + 1) j _ _ 4 5 line c₂ (omega arith) (omega arith) (omega arith) (omega arith) (omega arith) e r) in
-      let w₄ = swept_at F blanks (4 * j + 1 + 1 + 1) (4 * j + 3) l₃ c₃ (omega arith) w₃ (omega arith)
-      (byte_is result ever (4 * j + 1 + 1 + 1) j _ _ 6 7 line c₃ (omega arith) (omega arith) (omega arith) (omega arith) (omega arith) e s) in
-      let n : 4 * j + 1 + 1 + 1 + 1 ≡ 4 * (j + 1) = omega arith in
-      subst (λ (k : ℕ). Swept F 0 blanks k (set l₃ (4 * j + 3) c₃)) n w₄
+  pub codes_turn : (codes : List ℕ) (j k line c : ℕ) → j < 32 → k < 4 → line ≡ get_or ever j 0
+      → c ≡ 16 * code_of 8 (get_or result (8 * j + 2 * k) 0) (bit line (2 * k)) + code_of 8 (get_or result (8 * j + 2 * k + 1) 0) (bit line (2 * k + 1))
+      → Swept (code_byte result ever) 0 blanks (4 * j + k) codes → Swept (code_byte result ever) 0 blanks (4 * j + (k + 1)) (set codes (4 * j + k) c)
+  codes_turn codes j k line c h l e p w =
+      let n : 4 * j + k + 1 ≡ 4 * j + (k + 1) = omega arith in
+      subst (λ (m : ℕ). Swept (code_byte result ever) 0 blanks m (set codes (4 * j + k) c)) n
+      (swept_at (code_byte result ever) blanks (4 * j + k) (4 * j + k) codes c refl w (omega arith)
+      (byte_is result ever (4 * j + k) j _ _ (2 * k) (2 * k + 1) line c (omega arith) (omega arith) (omega arith) (omega arith) (omega arith) e p))
 
   pub codes_past : (codes : List ℕ) (j line : ℕ) (b : Bool) → j < 32 → length result ≡ 256 → line ≡ get_or ever j 0
       → b ≡ empty_line (take 8 (drop (8 * j) result)) line → b ≡ true
@@ -221,15 +195,20 @@ module _ (result ever : List ℕ) where
 
 -- ---- what is read at a place
 
-number_two : (s : List ℕ) (at : ℕ) → at + 2 ≤ length s → number_in 2 (drop at s) ≡ 256 * get_or s at 0 + get_or s (at + 1) 0
+-- two bytes, the most significant first
+pub number_units : (n : ℕ) → n % 65536 / 256 % 256 ∷ n % 65536 % 256 ∷ [] ≡ units 2 (n ∷ [])
+unfolding units
+number_units n =
+    let x : n % 65536 / 256 % 256 ≡ n / 256 % 256 = omega arith in
+    let y : n % 65536 % 256 ≡ n / 1 % 256 = omega arith in
+    rw (x, y)
+
+pub number_two : (s : List ℕ) (at : ℕ) → at + 2 ≤ length s → number_in 2 (drop at s) ≡ 256 * get_or s at 0 + get_or s (at + 1) 0
 unfolding units_in
 number_two s at h =
     let e : take 2 (drop at s) ≡ get_or s at 0 ∷ get_or s (at + 1) 0 ∷ [] = taken s at (at + 1) 1 (omega arith) refl
     ∙ ap (λ l. get_or s at 0 ∷ l) (taken s (at + 1) (at + 2) 0 (omega arith) (omega arith)) in
     ap (join (8 ∷ 8 ∷ [])) e ∙ omega arith
-
-pub number_made : (s : List ℕ) (at a b : ℕ) → at + 2 ≤ length s → a ≡ get_or s at 0 → b ≡ get_or s (at + 1) 0 → 256 * a + b ≡ number_in 2 (drop at s)
-number_made s at a b h e f = rw (e, f) (sym (number_two s at h))
 
 pub number_one : (s : List ℕ) (at : ℕ) → at + 1 ≤ length s → number_in 1 (drop at s) ≡ get_or s at 0
 unfolding units_in
@@ -301,7 +280,7 @@ module _ (s : List ℕ) where
     -- ---- results
 
     module _ (meanings : List ℕ) where
-      abbrev held : ℕ → ℕ
+      abbrev pub held : ℕ → ℕ
       held k = get_or meanings (get_or (codes_at s) k 0) 0
 
       abbrev none : List ℕ
@@ -314,36 +293,19 @@ module _ (s : List ℕ) where
       second_held i k b h e f = rw (second_code i k h e, ← f)
 
       -- the two codes of a byte
-      pair_turn : (result : List ℕ) (i k x y b : ℕ) → i < 128 → k ≡ 2 * i → x ≡ k → y ≡ k + 1 → b ≡ get_or s (32 + i) 0 → b < 256 → Swept held 0 none k result
-          → Swept held 0 none (k + 1 + 1) (set (set result x (get_or meanings (b / 16) 0)) y (get_or meanings (b % 16) 0))
-      pair_turn result i k x y b h e p q f l w =
-          let w₁ = swept_at held none k x result (get_or meanings (b / 16) 0) p w (omega arith) (first_held i k b h e f l) in
-          swept_at held none (k + 1) y (set result x (get_or meanings (b / 16) 0)) (get_or meanings (b % 16) 0) q w₁ (omega arith)
-          (second_held i (k + 1) b h (omega arith) f)
-
-      pub results_turn : (result : List ℕ) (j a b c d : ℕ) → j < 32 → a ≡ get_or s (32 + 4 * j) 0 → b ≡ get_or s (32 + 4 * j + 1) 0
-          → c ≡ get_or s (32 + 4 * j + 2) 0 → d ≡ get_or s (32 + 4 * j + 3) 0
-          → a < 256 → b < 256 → c < 256 → d < 256 → Swept held 0 none (8 * j) result
-          → Swept held 0 none (8 * (j + 1))
-          (set (set (set (set (set (set (set (set result (8 * j) (get_or meanings (a / 16) 0)) (8 * j + 1) (get_or meanings (a % 16) 0)) (8 * j + 2)
-          (get_or meanings (b / 16) 0)) (8 * j + 3) (get_or meanings (b % 16) 0))
-          (8 * j + 4) (get_or meanings (c / 16) 0)) (8 * j + 5) (get_or meanings (c % 16) 0)) (8 * j + 6) (get_or meanings (d / 16) 0)) (8 * j + 7)
-          (get_or meanings (d % 16) 0))
-      results_turn result j a b c d h ea eb ec ed la lb lc ld w =
-          let at : (m n : ℕ) → m ≡ n → get_or s m 0 ≡ get_or s n 0 = (λ m n e. ap (λ k. get_or s k 0) e) in
-          let w₁ = pair_turn result (4 * j) (8 * j) (8 * j) (8 * j + 1) a (omega arith) (omega arith) refl refl ea la w in
-          let w₂ = pair_turn _ (4 * j + 1) (8 * j + 1 + 1) (8 * j + 2) (8 * j + 3) b (omega arith) (omega arith) (omega arith) (omega arith) (eb
-          ∙ at _ _ (omega arith)) lb w₁ in
-          let w₃ = pair_turn _ (4 * j + 2) (8 * j + 1 + 1 + 1 + 1) (8 * j + 4) (8 * j + 5) c (omega arith) (omega arith) (omega arith) (omega arith) (ec
-          ∙ at _ _ (omega arith)) lc w₂ in
-          let w₄ = pair_turn _ (4 * j + 3) (8 * j + 1 + 1 + 1 + 1 + 1 + 1) (8 * j + 6) (8 * j + 7) d (omega arith) (omega arith) (omega arith) (omega arith)
-          (ed ∙ at _ _ (omega arith)) ld w₃ in
-          let n : 8 * j + 1 + 1 + 1 + 1 + 1 + 1 + 1 + 1 ≡ 8 * (j + 1) = omega arith in
-          subst (λ (k : ℕ). Swept held 0 none k (set (set (set (set (set
-          (set (set (set result (8 * j) (get_or meanings (a / 16) 0)) (8 * j + 1) (get_or meanings (a % 16) 0)) (8 * j + 2) (get_or meanings (b / 16) 0))
-          (8 * j + 3) (get_or meanings (b % 16) 0))
-          (8 * j + 4) (get_or meanings (c / 16) 0)) (8 * j + 5) (get_or meanings (c % 16) 0)) (8 * j + 6) (get_or meanings (d / 16) 0)) (8 * j + 7)
-          (get_or meanings (d % 16) 0))) n w₄
+      pub results_turn : (result : List ℕ) (j k b : ℕ) → j < 32 → k < 4 → b ≡ get_or s (32 + 4 * j + k) 0 → b < 256
+          → Swept held 0 none (8 * j + 2 * k) result
+          → Swept held 0 none (8 * j + 2 * (k + 1))
+          (set (set result (8 * j + 2 * k) (get_or meanings (b / 16) 0)) (8 * j + 2 * k + 1) (get_or meanings (b % 16) 0))
+      results_turn result j k b h l e f w =
+          let i = 8 * j + 2 * k in
+          let at : b ≡ get_or s (32 + (4 * j + k)) 0 = e ∙ ap (λ n. get_or s n 0) (let n : 32 + 4 * j + k ≡ 32 + (4 * j + k) = omega arith in n) in
+          let w₁ = swept_at held none i i result (get_or meanings (b / 16) 0) refl w (omega arith)
+          (first_held (4 * j + k) i b (omega arith) (omega arith) at f) in
+          let w₂ = swept_at held none (i + 1) (i + 1) (set result i (get_or meanings (b / 16) 0)) (get_or meanings (b % 16) 0) refl w₁ (omega arith)
+          (second_held (4 * j + k) (i + 1) b (omega arith) (omega arith) at) in
+          let n : i + 1 + 1 ≡ 8 * j + 2 * (k + 1) = omega arith in
+          subst (λ (m : ℕ). Swept held 0 none m (set (set result i (get_or meanings (b / 16) 0)) (i + 1) (get_or meanings (b % 16) 0))) n w₂
 
       pub results_past : (result : List ℕ) (j r : ℕ) → j < 32 → get_or meanings 0 0 ≡ 0 → r ≡ little_endian (take 4 (drop (32 + 4 * j) s)) → r ≡ 0
           → Swept held 0 none (8 * j) result → Swept held 0 none (8 * (j + 1)) result
@@ -402,48 +364,51 @@ module _ (s : List ℕ) where
 
 -- ---- pairs that are compared
 
-front_same : (x p l : List ℕ) → same_front (x ++ p) (x ++ l) ≡ same_front p l
+front_starts : (p l : List ℕ) → starts_with eqb l p ≡ same_front p l
 unfolding same_front
-front_same [] p l = refl
-front_same (n ∷ x) p l = rw (eq-eqb n n refl) (front_same x p l)
+front_starts [] l = refl
+front_starts (x ∷ p) [] = refl
+front_starts (x ∷ p) (y ∷ l) =
+    by_test (eqb y x) (λ t. rw (t, eq-eqb x y (sym (eqb-true y x t))) (front_starts p l))
+    λ t. rw (t, ne_eqb x y (λ e. eqb-false y x t (sym e)))
 
--- n bytes of both as numbers
-module _ (p l : List ℕ) (n i j x y : ℕ) where
-  pub same_next : (k : ℕ) → k ≡ j + n → octets_of n x ≡ take n (drop j l) → octets_of n y ≡ take n (drop i p) → x ≡ y
-      → same_front (drop (i + n) p) (drop k l) ≡ same_front (drop i p) (drop j l)
-  same_next k z f g e =
-      let t : take n (drop j l) ≡ take n (drop i p) = sym f ∙ ap (octets_of n) e ∙ g in
-      let a : take n (drop i p) ++ drop (i + n) p ≡ drop i p = ap (λ m. take n (drop i p) ++ m) (sym (drop-drop n i p)) ∙ take-append-drop n (drop i p) in
-      let b : take n (drop i p) ++ drop (j + n) l ≡ drop j l = ap₂ ◌++◌ (sym t) (sym (drop-drop n j l)) ∙ take-append-drop n (drop j l) in
-      ap (λ m. same_front (drop (i + n) p) (drop m l)) z ∙ sym (front_same (take n (drop i p)) (drop (i + n) p) (drop (j + n) l)) ∙ ap₂ same_front a b
-
-  pub same_differ : x ≡ little_endian (take n (drop j l)) → y ≡ little_endian (take n (drop i p)) → (x ≡ y → ⊥) → i + n ≤ length p
-      → same_front (drop i p) (drop j l) ≡ false
-  same_differ f g d h = by_test (same_front (drop i p) (drop j l))
-      (λ t. absurd (d (f ∙ ap little_endian (ap (take n) (front_is (drop i p) (drop j l) t)
-      ∙ take-append-le n (drop i p) _ (rw (length-drop i p) (omega arith))) ∙ sym g)))
-      λ t. t
-
--- the last byte
-pub same_last : (p l : List ℕ) (i j : ℕ) → length p ≡ i + 1 → j < length l → eqb (get_or l j 0) (get_or p i 0) ≡ same_front (drop i p) (drop j l)
-unfolding same_front
-same_last p l i j h g =
-    let e : drop i p ≡ get_or p i 0 ∷ [] = drop-cons p i 0 (omega arith) ∙ ap (λ m. get_or p i 0 ∷ m) (drop_of_length-le p {i = suc i} (omega arith)) in
-    rw (e, drop-cons l j 0 g) (by_test (eqb (get_or l j 0) (get_or p i 0)) (λ t. rw t) λ t. rw t)
+pub pair_starts : (p l : List ℕ) → starts_with eqb (take (length l - 3) (drop 3 l)) p ≡ formats.same_pair p l
+unfolding formats.same_pair
+pair_starts p l = rw (take_all (length l - 3) (drop 3 l) (rw (length-drop 3 l) (omega arith))) (front_starts p (drop 3 l))
 
 -- ---- a fingerprint
+
+bits_apart : (a s : ℕ) → s < 128 → bit_and (a * 128) s ≡ 0
+bits_apart a s l =
+    let e : a * 128 ≡ a * 128 + 0 = omega arith in
+    let f : s ≡ 0 * 128 + s = omega arith in
+    let x = and_le_r a 0 in
+    let y = and_le_l 0 s in
+    ap₂ bit_and e f ∙ and_block 7 a 0 0 s (omega arith) l ∙ omega arith
+
+-- a word that is turned: its highest bits come behind the others
+turned : (h r word : ℕ) → h < 2 ^ 64 → r ≡ rotate_left w64 h 7 → bit_xor r word ≡ mix h word
+turned h r word l e =
+    let low : h * 128 % 18446744073709551616 ≡ h % 144115188075855872 * 128 = omega arith in
+    let high : h / 144115188075855872 ≡ h / 144115188075855872 % 128 = omega arith in
+    let f : r ≡ h % 144115188075855872 * 128 + h / 144115188075855872 % 128 = e ∙ ap (λ n. bit_or n (h / 144115188075855872)) low
+    ∙ or_disjoint (h % 144115188075855872 * 128) (h / 144115188075855872) (bits_apart (h % 144115188075855872) (h / 144115188075855872) (omega arith))
+    ∙ ap (λ n. h % 144115188075855872 * 128 + n) high in
+    ap (λ n. bit_xor n word) f
 
 module _ (s : List ℕ) where
   abbrev words : ℕ → List ℕ
   words i = words_in (19 - i) (drop (8 * i) s)
 
-  pub mix_turn : (h i word : ℕ) → i < 19 → word ≡ little_endian (take 8 (drop (8 * i) s)) → mixed (mix h word) (words (i + 1)) ≡ mixed h (words i)
+  pub mix_turn : (h r i word : ℕ) → i < 19 → h < 2 ^ 64 → r ≡ rotate_left w64 h 7 → word ≡ little_endian (take 8 (drop (8 * i) s))
+      → mixed (bit_xor r word) (words (i + 1)) ≡ mixed h (words i)
   unfolding mixed words_in
-  mix_turn h i word l e =
+  mix_turn h r i word l t q e =
       let n : 19 - i ≡ suc (19 - (i + 1)) = omega arith in
       let d : drop 8 (drop (8 * i) s) ≡ drop (8 * (i + 1)) s = (let k : 8 * i + 8 ≡ 8 * (i + 1) = omega arith in drop-drop 8 (8 * i) s
       ∙ ap (λ m. drop m s) k) in
-      sym (ap (λ m. mixed h (words_in m (drop (8 * i) s))) n ∙ ap₂ (λ w r. mixed (mix h w) (words_in (19 - (i + 1)) r)) (sym e) d)
+      ap (λ m. mixed m (words (i + 1))) (turned h r word t q)
+      ∙ sym (ap (λ m. mixed h (words_in m (drop (8 * i) s))) n ∙ ap₂ (λ w r. mixed (mix h w) (words_in (19 - (i + 1)) r)) (sym e) d)
 
   pub mix_end : (h i : ℕ) → 19 ≤ i → mixed h (words i) ≡ h
   unfolding mixed words_in
@@ -464,15 +429,16 @@ laid_over p part z r l m at h g e f =
     let a : drop (at + length part) (p ++ (z ++ r)) ≡ r = rw (← h) (drop-append-add p (z ++ r) (length part) ∙ drop_at z r (length part) g) in
     rw (f, e, take_at p (z ++ r) at h, a)
 
-module _ (point v : ℕ) (class unequal marks codes l₁ l₂ l₃ l₄ : List ℕ) (a : length class ≡ 8) (b : length unequal ≡ 8) (c : length marks ≡ 8)
-    (d : length codes ≡ 128) where
-  pub parts_made : l₁ ≡ laid_at 4 class (0 ∷ 0 ∷ point / 256 % 256 ∷ point % 256 ∷ replicate 153 0) → l₂ ≡ laid_at 12 unequal l₁ → l₃ ≡ laid_at 20 marks l₂
-      → l₄ ≡ laid_at 29 codes (set l₃ 28 v)
-      → l₄ ≡ parts_of point class unequal marks v codes
-  unfolding units
-  parts_made p q r s =
-      let t : List ℕ = 0 ∷ 0 ∷ point / 256 % 256 ∷ point % 256 ∷ [] in
-      let x₁ : l₁ ≡ t ++ class ++ replicate 145 0 = laid_over t class (replicate 8 0) (replicate 145 0) _ l₁ 4 refl (sym a) refl p in
+module _ (v : ℕ) (number class unequal marks codes l₀ l₁ l₂ l₃ l₄ : List ℕ) (n : length number ≡ 2) (a : length class ≡ 8) (b : length unequal ≡ 8)
+    (c : length marks ≡ 8) (d : length codes ≡ 128) where
+  parts_made : l₀ ≡ laid_at 2 number (replicate 157 0) → l₁ ≡ laid_at 4 class l₀ → l₂ ≡ laid_at 12 unequal l₁ → l₃ ≡ laid_at 20 marks l₂
+      → l₄ ≡ laid_at 29 codes (set l₃ 28 v) → l₄ ≡ 0 ∷ 0 ∷ (number ++ (class ++ (unequal ++ (marks ++ (v ∷ codes)))))
+  parts_made o p q r s =
+      let z : List ℕ = 0 ∷ 0 ∷ [] in
+      let t : List ℕ = z ++ number in
+      let x₀ : l₀ ≡ z ++ number ++ replicate 153 0 = laid_over z number (replicate 2 0) (replicate 153 0) _ l₀ 2 refl (sym n) refl o in
+      let x₁ : l₁ ≡ t ++ class ++ replicate 145 0 = laid_over t class (replicate 8 0) (replicate 145 0) l₀ l₁ 4 (simp length-append (omega arith)) (sym a)
+      x₀ p in
       let x₂ : l₂ ≡ t ++ class ++ unequal ++ replicate 137 0 = laid_over (t ++ class) unequal (replicate 8 0) (replicate 137 0) l₁ l₂ 12
       (simp length-append (omega arith)) (sym b) x₁ q in
       let x₃ : l₃ ≡ t ++ class ++ unequal ++ marks ++ replicate 129 0 = laid_over (t ++ class ++ unequal) marks (replicate 8 0) (replicate 129 0) l₂ l₃ 20
@@ -482,53 +448,29 @@ module _ (point v : ℕ) (class unequal marks codes l₁ l₂ l₃ l₄ : List �
       rw x₃ (set_at (t ++ class ++ unequal ++ marks) 0 (replicate 128 0) v 28 y) ∙ sym (append_snoc (t ++ class ++ unequal ++ marks) v (replicate 128 0)) in
       laid_over (t ++ class ++ unequal ++ marks ++ (v ∷ [])) codes (replicate 128 0) [] (set l₃ 28 v) l₄ 29 (simp length-append (omega arith)) (sym d)
       (x ∙ ap (λ (u : List ℕ). t ++ class ++ unequal ++ marks ++ (v ∷ []) ++ u) (sym (append-nil (replicate 128 0)))) s
-      ∙ rw (div-one point) (simp (append-nil, append_assoc))
+      ∙ simp (append-nil, append_assoc)
 
-pub masks_all : (masks bytes : List ℕ) (i : ℕ) → length masks ≡ 8 → WrittenUpTo (λ k. get_or (units 1 masks) k 0) 0 8 i bytes → 8 ≤ i → bytes ≡ units 1 masks
-masks_all masks bytes i h w l = written_all _ 0 8 i bytes w l ∙ sym (table_is (λ k. get_or (units 1 masks) k 0) 8 (units 1 masks) 0 (units_length 1 masks
-    ∙ rw h) (λ k b. refl))
+  content_made : (point : ℕ) (w : Window) → number ≡ units 2 (point ∷ []) → class ≡ units 1 w.class → unequal ≡ units 1 w.unequal → marks ≡ map flag w.mark → v ≡ flag w.infeasible → codes ≡ code_bytes w.result w.ever
+      → l₀ ≡ laid_at 2 number (replicate 157 0) → l₁ ≡ laid_at 4 class l₀ → l₂ ≡ laid_at 12 unequal l₁ → l₃ ≡ laid_at 20 marks l₂
+      → l₄ ≡ laid_at 29 codes (set l₃ 28 v) → drop 2 l₄ ≡ formats.content_of first_format point w
+  unfolding formats.content_of
+  content_made point w en ec eu em ev eo o p q r s =
+      let one : units 1 (map flag w.mark) ≡ map flag w.mark = units_one (map flag w.mark) (all_map w.mark) in
+      let two : units 1 (flag w.infeasible ∷ []) ≡ flag w.infeasible ∷ [] = units_one (map flag (w.infeasible ∷ [])) (all_map (w.infeasible ∷ [])) in
+      ap (drop 2) (parts_made o p q r s) ∙ rw (en, ec, eu, em, ev, eo, one, two)
 
--- a mask as a byte
-pub mask_is : (masks : List ℕ) (i : ℕ) → length masks ≡ 8 → i < 8 → get_or masks i 0 < 256 → get_or masks i 0 ≡ get_or (units 1 masks) i 0
-unfolding units
-mask_is masks i h l s = go masks i (omega arith) s
-  where
-    go : (l : List ℕ) (i : ℕ) → i < length l → get_or l i 0 < 256 → get_or l i 0 ≡ get_or (units 1 l) i 0
-    go [] i h s = absurd (omega arith)
-    go (x ∷ l) zero h s = sym (rw div-one (mod-eq_of_lt s))
-    go (x ∷ l) (suc i) h s = go l i (omega arith) s
-
-content_made : (point : ℕ) (w : Window) (classes unequals marks codes : List ℕ) (v : ℕ)
-    → classes ≡ units 1 w.class → unequals ≡ units 1 w.unequal → marks ≡ map flag w.mark → v ≡ flag w.infeasible
-    → codes ≡ code_bytes w.result w.ever
-    → units 2 (point ∷ []) ++ (classes ++ (unequals ++ (marks ++ (v ∷ codes)))) ≡ formats.content_of first_format point w
-unfolding formats.content_of
-content_made point w classes unequals marks codes v p q r s t =
-    let m : units 1 (map flag w.mark) ≡ map flag w.mark = units_one (map flag w.mark) (all_map w.mark) in
-    let n : units 1 (flag w.infeasible ∷ []) ≡ flag w.infeasible ∷ [] = units_one (map flag (w.infeasible ∷ [])) (all_map (w.infeasible ∷ [])) in
-    rw (p, q, r, s, t, m, n)
-
-pub encoded_made : (point : ℕ) (w : Window) (pair classes unequals marks codes : List ℕ) (v f n : ℕ)
-    → classes ≡ units 1 w.class → unequals ≡ units 1 w.unequal → marks ≡ map flag w.mark → v ≡ flag w.infeasible
-    → codes ≡ code_bytes w.result w.ever
-    → pair ≡ parts_of point classes unequals marks v codes → length pair ≤ 2 + n → f ≡ fingerprint_of (take n (drop 2 pair))
-    → set (set pair 0 (f / 256 % 256)) 1 (f % 256) ≡ encoded point w
-unfolding formats.encoded_in_format units
-encoded_made point w pair classes unequals marks codes v f n p q r s t e h d =
-    let g : f ≡ fingerprint_of (drop 2 pair) = d ∙ ap fingerprint_of (take_all n (drop 2 pair) (rw (length-drop 2 pair) (omega arith))) in
-    let c : drop 2 pair ≡ formats.content_of first_format point w = ap (drop 2) e ∙ content_made point w classes unequals marks codes v p q r s t in
-    rw (← c, ← g, div-one f) (ap (λ l. set (set l 0 (f / 256 % 256)) 1 (f % 256)) e ∙ ap (λ l. f / 256 % 256 ∷ f % 256 ∷ drop 2 l) (sym e))
+  pub encoded_made : (point : ℕ) (w : Window) (f l₅ : List ℕ) (m : ℕ) → number ≡ units 2 (point ∷ []) → class ≡ units 1 w.class → unequal ≡ units 1 w.unequal → marks ≡ map flag w.mark → v ≡ flag w.infeasible → codes ≡ code_bytes w.result w.ever
+      → l₀ ≡ laid_at 2 number (replicate 157 0) → l₁ ≡ laid_at 4 class l₀ → l₂ ≡ laid_at 12 unequal l₁ → l₃ ≡ laid_at 20 marks l₂
+      → l₄ ≡ laid_at 29 codes (set l₃ 28 v) → length l₄ ≡ 157 → m ≡ fingerprint_of (take 155 (drop 2 l₄)) → f ≡ units 2 (m ∷ [])
+      → l₅ ≡ laid_at 0 f l₄ → l₅ ≡ encoded point w
+  unfolding formats.encoded_in_format units
+  encoded_made point w f l₅ m en ec eu em ev eo o p q r s long g h k =
+      let e = content_made point w en ec eu em ev eo o p q r s in
+      let j : m ≡ fingerprint_of (formats.content_of first_format point w) =
+      g ∙ ap fingerprint_of (take_all 155 (drop 2 l₄) (rw (length-drop 2 l₄) (omega arith)) ∙ e) in
+      k ∙ rw (h, j, ← e)
 
 -- ---- what is read, whole
-
-pub copied : (b s z : List ℕ) (at n k : ℕ) → k ≡ n → length z ≡ n → at + n ≤ length s
-    → b ≡ take 0 z ++ take k (drop at s) ++ drop (0 + length (take k (drop at s))) z → b ≡ take n (drop at s)
-copied b s z at n k e o l q =
-    let m : length (take k (drop at s)) ≡ n = simp (length-take, length-drop) (omega arith) in
-    q ∙ rw (drop_of_length-le z {i = 0 + length (take k (drop at s))} (omega arith), append-nil (take k (drop at s)), e)
-
-pub meanings_made : (class l : List ℕ) → length class ≡ 8 → l ≡ laid_at 2 class (replicate 16 0) → l ≡ meanings_of class
-meanings_made class l h p = laid_over (0 ∷ 0 ∷ []) class (replicate 8 0) (replicate 6 0) (replicate 16 0) l 2 refl (sym h) refl p
 
 -- what a code means is the class that it stands for
 meaning_held : (class : List ℕ) (c : ℕ) → length class ≡ 8 → get_or (meanings_of class) c 0 ≡ class_of_code class c
@@ -571,12 +513,13 @@ window_made s class unequal flags meanings result ever mark infeasible classes l
 
 -- ---- a whole record
 
-pub record_made : (pair l : List ℕ) (parent branch : ℕ) → length pair ≡ encoded_bytes → l ≡ laid_at 3 pair
-    (parent / 256 % 256 ∷ parent % 256 ∷ branch % 256 ∷ replicate 189 0) → l ≡ record_of pair parent branch
+pub record_made : (number pair l₀ l : List ℕ) (parent branch : ℕ) → length pair ≡ encoded_bytes → number ≡ units 2 (parent ∷ [])
+    → l₀ ≡ laid_at 0 number (replicate 192 0) → l ≡ laid_at 3 pair (set l₀ 2 (branch % 256)) → l ≡ record_of pair parent branch
 unfolding formats.record_in_format units
-record_made pair l parent branch h p =
+record_made number pair l₀ l parent branch h n o p =
+    let x : l₀ ≡ parent / 256 % 256 ∷ parent % 256 ∷ replicate 190 0 = o ∙ rw (n, div-one parent) in
     laid_over (parent / 256 % 256 ∷ parent % 256 ∷ branch % 256 ∷ []) pair (replicate encoded_bytes 0) (replicate 32 0)
-    (parent / 256 % 256 ∷ parent % 256 ∷ branch % 256 ∷ replicate 189 0) l 3 refl (sym h) refl p
+    (set l₀ 2 (branch % 256)) l 3 refl (sym h) (ap (λ (m : List ℕ). set m 2 (branch % 256)) x) p
     ∙ rw (div-one parent, div-one branch)
 
 pub write_made : (bytes whole part l : List ℕ) → length bytes ≡ record_bytes → bytes ≡ whole → l ≡ laid_at 0 bytes part → l ≡ whole ++ drop 192 part

@@ -1,9 +1,8 @@
 -- Pairs and records as bytes in the first edition's format. A record has 192 bytes (SPEC 10.6).
-use Rattle.std.specs.Prelude.{ℕ, ◌+◌, ◌-◌, ◌^◌, Bool, false, List, [], ◌∷◌, ◌++◌, eqb, get_or, drop, replicate}
+use Rattle.std.specs.Prelude.{ℕ, ◌+◌, ◌-◌, ◌^◌, Bool, false, List, ◌∷◌, ◌++◌, eqb, get_or, drop, replicate}
 use Rattle.base.specs.Bytes.{little_endian}
 use Rattle.base.specs.Choice.{pick}
 use Rattle.letters.specs.Editions.{first_edition}
-use Rattle.semantics.specs.PackedTables.{units}
 use Rattle.window.specs.Table.{table}
 use Rattle.window.specs.Layout.{registers, functions, results}
 use Rattle.window.specs.declared.Window.{Window}
@@ -40,10 +39,6 @@ empty_line entries line = pick (eqb line 0) (λ _. eqb (little_endian entries) 0
 -- The codes of all entries.
 abbrev pub code_bytes : List ℕ → List ℕ → List ℕ
 code_bytes = formats.code_bytes_in_format first_format
-
--- The parts of a pair in their order, before its fingerprint is known.
-abbrev pub parts_of : ℕ → List ℕ → List ℕ → List ℕ → ℕ → List ℕ → List ℕ
-parts_of point class unequal marks infeasible codes = 0 ∷ 0 ∷ (units number_bytes (point ∷ []) ++ (class ++ (unequal ++ (marks ++ (infeasible ∷ codes)))))
 
 abbrev pub fingerprint_of : List ℕ → ℕ
 fingerprint_of = formats.fingerprint_in_format first_format

@@ -1,6 +1,6 @@
--- Words of eight bytes, and the bytes of a number, the least significant first.
-use Rattle.std.specs.Prelude.{ℕ, zero, suc, ◌/◌, ◌%◌, List, [], ◌∷◌, take, drop}
-use Rattle.base.specs.Bytes.{byte_values, little_endian}
+-- Words of eight bytes.
+use Rattle.std.specs.Prelude.{ℕ, zero, suc, List, [], ◌∷◌, take, drop}
+use Rattle.base.specs.Bytes.{little_endian}
 
 -- the bytes of a word, and of a half of it
 abbrev pub fingerprint_word_bytes : ℕ
@@ -8,11 +8,6 @@ fingerprint_word_bytes = 8
 
 abbrev pub half_bytes : ℕ
 half_bytes = 4
-
--- The lowest n bytes of a number.
-abbrev pub octets_of : ℕ → ℕ → List ℕ
-octets_of zero word = []
-octets_of (suc n) word = word % byte_values ∷ octets_of n (word / byte_values)
 
 -- The first n words.
 unfoldable pub words_in : ℕ → List ℕ → List ℕ

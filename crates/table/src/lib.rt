@@ -1,10 +1,11 @@
 // The table of pairs in a lent slice (SPEC 10.6): pair number k lies in bytes 192 times k onward, k from 0.
+// The lent slice is the table, and these are functions of it: a struct that held it would say no more.
 #![tactic(auto)]
 
 ghost use Rattle.std.specs.Prelude.{◌≡◌, ◌+◌, ◌*◌, ◌≤◌, ◌<◌, length, replicate};
 ghost use Rattle.letters.specs.Editions.{first_edition};
 ghost use Rattle.letters.specs.Capacity.{capacity_of};
-ghost use Rattle.records.specs.Records.{record_bytes, encoded_bytes, record_of};
+ghost use Rattle.records.specs.Records.{record_bytes, record_of};
 ghost use Rattle.table.specs.Table.{put_at, point_at, parent_at, branch_at, window_at, is_at};
 
 use records::{ENCODED_BYTES, RECORD_BYTES, same_pair};
@@ -17,11 +18,7 @@ pub const MOST_PAIRS: usize = 1024;
 pub fn capacity(length: usize) -> usize
     ensures { result ≡ capacity_of first_edition length }
 {
-    let whole = length / RECORD_BYTES;
-    if whole < MOST_PAIRS {
-        return whole;
-    }
-    MOST_PAIRS
+    (length / RECORD_BYTES).min(MOST_PAIRS)
 }
 
 /// Writes record k, and changes no other byte.
@@ -29,8 +26,7 @@ pub fn put(table: &mut [u8], k: usize, pair: [u8; ENCODED_BYTES], parent: usize,
     requires { record_bytes * k + record_bytes ≤ length table.old }
     ensures { table.new ≡ put_at table.old k (record_of pair parent branch) }
 {
-    let start = RECORD_BYTES * k;
-    records::write(&mut table[start..], &pair, parent, branch);
+    records::write(&mut table[RECORD_BYTES * k..], &pair, parent, branch);
 }
 
 /// The point of pair k.
@@ -38,8 +34,7 @@ pub fn point_at(table: &[u8], k: usize) -> usize
     requires { record_bytes * k + record_bytes ≤ length table.now }
     ensures { result ≡ point_at table.now k }
 {
-    let at = RECORD_BYTES * k;
-    records::point_in(&table[at..])
+    records::point_in(&table[RECORD_BYTES * k..])
 }
 
 /// The number of the pair from which pair k was reached.
@@ -47,8 +42,7 @@ pub fn parent_at(table: &[u8], k: usize) -> usize
     requires { record_bytes * k + record_bytes ≤ length table.now }
     ensures { result ≡ parent_at table.now k }
 {
-    let at = RECORD_BYTES * k;
-    records::parent_in(&table[at..])
+    records::parent_in(&table[RECORD_BYTES * k..])
 }
 
 /// The branch that was taken from there to pair k.
@@ -56,8 +50,7 @@ pub fn branch_at(table: &[u8], k: usize) -> usize
     requires { record_bytes * k + record_bytes ≤ length table.now }
     ensures { result ≡ branch_at table.now k }
 {
-    let at = RECORD_BYTES * k;
-    records::branch_in(&table[at..])
+    records::branch_in(&table[RECORD_BYTES * k..])
 }
 
 /// The window of pair k.
@@ -65,26 +58,20 @@ pub fn window_at(table: &[u8], k: usize) -> Window
     requires { record_bytes * k + record_bytes ≤ length table.now }
     ensures { result ≡ window_at table.now k }
 {
-    let at = RECORD_BYTES * k;
-    records::window_in(&table[at..])
+    records::window_in(&table[RECORD_BYTES * k..])
 }
 
 /// Whether pair k is this one.
 pub fn is_at(table: &[u8], k: usize, pair: &[u8; ENCODED_BYTES]) -> bool
-    requires { (record_bytes * k + record_bytes ≤ length table.now) × (length pair.now ≡ encoded_bytes) }
+    requires { record_bytes * k + record_bytes ≤ length table.now }
     ensures { result ≡ is_at table.now k pair.now }
 {
-    let at = RECORD_BYTES * k;
-    same_pair(&table[at..], pair)
+    same_pair(&table[RECORD_BYTES * k..], pair)
 }
 
 /// Sets every byte of the table to zero.
 pub fn clear(table: &mut [u8])
     ensures { table.new ≡ replicate (length table.old) 0 }
 {
-    let mut at: usize = 0;
-    while at < table.len() {
-        table[at] = 0;
-        at = at + 1;
-    }
+    table.fill(0);
 }
