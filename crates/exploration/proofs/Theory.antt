@@ -10,3 +10,4 @@ pub mod Going
 pub mod Explored
 pub mod Ending
 pub mod EventEnding
+pub mod UnderWay

@@ -1,12 +1,12 @@
 // The exploration of the pairs of a macro, breadth first from pair to pair (SPEC 10).
 #![tactic(auto)]
 
-ghost use Rattle.std.specs.Prelude.{◌≡◌, ◌+◌, ◌*◌, ◌/◌, ◌%◌, ◌≤◌, length};
+ghost use Rattle.std.specs.Prelude.{◌≡◌, ◌+◌, ◌*◌, ◌/◌, ◌%◌, ◌≤◌, ◌<◌, length};
 ghost use Rattle.letters.specs.Capacity.{most_pairs};
 ghost use Rattle.exploration.specs.Moves.{opposite_of, move_of, letter_of};
 ghost use Rattle.exploration.specs.LetterBounds.{AllWithin};
 ghost use Rattle.window.specs.Perform.{WithinPacking};
-ghost use Rattle.exploration.specs.Turns.{Room, reach_turn, reach_table, fail_turn, turn_of, table_of};
+ghost use Rattle.exploration.specs.Turns.{reach_turn, reach_table, fail_turn, turn_of, table_of};
 ghost use Rattle.exploration.specs.Exploring.{explore_of, search_of};
 ghost use Rattle.exploration.specs.Keeping.{Keeps, Carried};
 ghost use Rattle.records.specs.Records.{record_bytes};
@@ -14,9 +14,8 @@ ghost use Rattle.table.specs.Table.{window_at};
 ghost use Rattle.index.specs.Index.{IndexedPairs};
 
 use blocks::{CHECK, MOST_POINTS, PointEntry, STEP};
-use index::{CHAINS, Heads, Links};
+use index::Index;
 use letters::{Header, Letter};
-use table::MOST_PAIRS;
 use window::Window;
 
 /// How many points a macro has at most.
@@ -33,29 +32,14 @@ pub enum PointMove {
     Fails(Letter),
 }
 
-/// What a move comes to.
+/// Why a search stops before all moves are performed.
 #[derive(Clone, Copy)]
-pub enum Turn {
-    /// The search goes on with this count of pairs.
-    On(usize),
-    /// There is no room for a new pair.
-    Full,
-    /// The letter is incoherent.
-    Breaking,
-    /// The letter fails an assertion, in some data model.
-    Failing,
-}
-
-/// How the search ends.
-#[derive(Clone, Copy)]
-pub enum Search {
+pub enum Stop {
     /// The pairs pass the table.
     Full,
-    /// All moves of so many pairs are performed.
-    Pass(usize),
     /// With so many pairs listed, the move of this number is incoherent.
     Breaking(usize, usize),
-    /// With so many pairs listed, the move of this number fails an assertion.
+    /// With so many pairs listed, the move of this number fails an assertion, in some data model.
     Failing(usize, usize),
 }
 
@@ -64,29 +48,9 @@ fn opposite(letter: Letter) -> Letter
     ensures { result ≡ opposite_of letter }
 {
     match letter {
-        Letter::Copy { target, source } => {
-            return letter;
-        }
-        Letter::Apply {
-            target,
-            function,
-            first,
-            second,
-        } => {
-            return letter;
-        }
-        Letter::Equal { first, second } => {
-            return Letter::Unequal {
-                first: first,
-                second: second,
-            };
-        }
-        Letter::Unequal { first, second } => {
-            return Letter::Equal {
-                first: first,
-                second: second,
-            };
-        }
+        Letter::Equal { first, second } => Letter::Unequal { first, second },
+        Letter::Unequal { first, second } => Letter::Equal { first, second },
+        Letter::Copy { .. } | Letter::Apply { .. } => letter,
     }
 }
 
@@ -117,170 +81,174 @@ fn choose(point: PointEntry, b: usize) -> PointMove
 pub fn letter_of(point: PointEntry, b: usize) -> Letter
     ensures { result ≡ letter_of (move_of point b) }
 {
-    let chosen = choose(point, b);
-    match chosen {
-        PointMove::Nothing => {
-            return Letter::Copy {
-                target: 0,
-                source: 0,
-            };
-        }
-        PointMove::Goes(letter, next) => {
-            return letter;
-        }
-        PointMove::Fails(letter) => {
-            return letter;
-        }
+    match choose(point, b) {
+        PointMove::Nothing => Letter::Copy {
+            target: 0,
+            source: 0,
+        },
+        PointMove::Goes(letter, _) => letter,
+        PointMove::Fails(letter) => letter,
     }
 }
 
-// The window w is left at point k: a pair, unless k is the end. It is listed if it is new and there is room.
-fn reach(
-    k: usize,
-    w: Window,
+// A turn of the search: how many points there are and for how many pairs there is room, how many pairs are listed, and the number of the move:
+// branch `number` % 2 of pair `number` / 2.
+#[derive(Clone, Copy)]
+struct Turn {
     end: usize,
-    table: &mut [u8],
-    head: &mut Heads,
-    link: &mut Links,
-    n: usize,
+    room: usize,
     count: usize,
-    d: usize,
-) -> Turn
-    requires { Room n count d (length table.old) × IndexedPairs table.old head.old link.old count }
-    ensures { (result ≡ reach_turn k w end n count table.old) × (table.new ≡ reach_table k w end n count d table.old)
-        × Keeps count table.old result table.new head.new link.new }
-{
-    if end <= k {
-        return Turn::On(count);
-    }
-    let pair = records::encode(k, w);
-    if index::is_listed(table, head, link, count, &pair) {
-        return Turn::On(count);
-    }
-    if count == n {
-        return Turn::Full;
-    }
-    let parent = d / 2;
-    table::put(table, count, pair, parent, d % 2);
-    index::enter(head, link, count, &pair);
-    let more = count + 1;
-    Turn::On(more)
+    number: usize,
+    ghost most: { room ≤ most_pairs },
+    ghost listed: { count ≤ room },
+    ghost due: { number < 2 * count },
 }
 
-// An assertion has failed with the window w: an event, unless the execution is infeasible.
-fn fail(w: Window, count: usize) -> Turn
-    ensures { result ≡ fail_turn w count }
-{
-    if w.infeasible {
-        return Turn::On(count);
+impl Turn {
+    // The window w is left at point k: a pair, unless k is the end. It is listed if it is new and there is room.
+    fn reach(self, k: usize, w: Window, table: &mut [u8], index: &mut Index) -> Result<usize, Stop>
+        requires fits { record_bytes * self.room ≤ length table.old }
+        requires indexed { IndexedPairs table.old index.old.head index.old.link self.count }
+        ensures value { result ≡ reach_turn k w self.end self.room self.count table.old }
+        ensures table { table.new ≡ reach_table k w self.end self.room self.count self.number table.old }
+        ensures keeps { Keeps self.count table.old result table.new index.new.head index.new.link }
+    {
+        if self.end <= k {
+            return Ok(self.count);
+        }
+        let pair = records::encode(k, w);
+        if index.is_listed(table, self.count, &pair) {
+            return Ok(self.count);
+        }
+        if self.count == self.room {
+            return Err(Stop::Full);
+        }
+        table::put(table, self.count, pair, self.number / 2, self.number % 2);
+        index.enter(self.count, &pair);
+        Ok(self.count + 1)
     }
-    Turn::Failing
-}
 
-// Performs move number d: branch d % 2 of pair d / 2, whose point and window these are.
-fn one_move(
-    point: PointEntry,
-    mut w: Window,
-    end: usize,
-    table: &mut [u8],
-    head: &mut Heads,
-    link: &mut Links,
-    n: usize,
-    count: usize,
-    d: usize,
-) -> Turn
-    requires { Room n count d (length table.old) × WithinPacking (letter_of (move_of point (d % 2)))
-        × (w ≡ window_at table.old (d / 2)) × IndexedPairs table.old head.old link.old count }
-    ensures { (result ≡ turn_of point end n count d table.old) × (table.new ≡ table_of point end n count d table.old)
-        × Keeps count table.old result table.new head.new link.new }
-{
-    let chosen = choose(point, d % 2);
-    match chosen {
-        PointMove::Nothing => {
-            return Turn::On(count);
+    // The letter is incoherent.
+    fn breaks(self) -> Result<usize, Stop>
+        ensures { result ≡ Err (Stop.Breaking self.count self.number) }
+    {
+        Err(Stop::Breaking(self.count, self.number))
+    }
+
+    // An assertion has failed with the window w: an event, unless the execution is infeasible.
+    fn fail(self, w: Window) -> Result<usize, Stop>
+        ensures { result ≡ fail_turn w self.count self.number }
+    {
+        if w.infeasible {
+            return Ok(self.count);
         }
-        PointMove::Goes(letter, k) => {
-            if w.judge(letter) {
+        Err(Stop::Failing(self.count, self.number))
+    }
+
+    // Performs the move, on the pair's point and window.
+    fn perform(
+        self,
+        point: PointEntry,
+        mut w: Window,
+        table: &mut [u8],
+        index: &mut Index,
+    ) -> Result<usize, Stop>
+        requires within { WithinPacking (letter_of (move_of point (self.number % 2))) }
+        requires window { w ≡ window_at table.old (self.number / 2) }
+        requires fits { record_bytes * self.room ≤ length table.old }
+        requires indexed { IndexedPairs table.old index.old.head index.old.link self.count }
+        ensures value { result ≡ turn_of point self.end self.room self.count self.number table.old }
+        ensures table { table.new ≡ table_of point self.end self.room self.count self.number table.old }
+        ensures keeps { Keeps self.count table.old result table.new index.new.head index.new.link }
+    {
+        match choose(point, self.number % 2) {
+            PointMove::Nothing => Ok(self.count),
+            PointMove::Goes(letter, k) => {
+                if !w.judge(letter) {
+                    return self.breaks();
+                }
                 w.perform(letter);
-                return reach(k, w, end, table, head, link, n, count, d);
+                self.reach(k, w, table, index)
             }
-            return Turn::Breaking;
-        }
-        PointMove::Fails(letter) => {
-            if w.judge(letter) {
+            PointMove::Fails(letter) => {
+                if !w.judge(letter) {
+                    return self.breaks();
+                }
                 w.perform(letter);
-                return fail(w, count);
+                self.fail(w)
             }
-            return Turn::Breaking;
         }
     }
 }
 
 // The window of the pair of move number d: read before the pair's first move, and kept for its second.
 fn current(table: &[u8], w: Window, d: usize) -> Window
-    requires { (record_bytes * (d / 2) + record_bytes ≤ length table.now) × Carried w d table.now }
+    requires fits { record_bytes * (d / 2) + record_bytes ≤ length table.now }
+    requires carried { Carried w d table.now }
     ensures { result ≡ window_at table.now (d / 2) }
 {
     if d % 2 == 0 {
-        return table::window_at(table, d / 2);
+        table::window_at(table, d / 2)
+    } else {
+        w
     }
-    w
 }
 
 // Performs the moves in order, from the pair in the table's first record on.
-fn explore(points: [PointEntry; POINTS], end: usize, table: &mut [u8], n: usize) -> Search
-    requires { (n ≤ most_pairs) × (1 ≤ n) × (record_bytes * n ≤ length table.old) × AllWithin points }
-    ensures { (result ≡ (explore_of points end n table.old).0) × (table.new ≡ (explore_of points end n table.old).1) }
+fn explore(
+    points: [PointEntry; POINTS],
+    end: usize,
+    table: &mut [u8],
+    room: usize,
+) -> Result<usize, Stop>
+    requires most { room ≤ most_pairs }
+    requires some { 1 ≤ room }
+    requires fits { record_bytes * room ≤ length table.old }
+    requires within { AllWithin points }
+    ensures value { result ≡ (explore_of points end room table.old).0 }
+    ensures table { table.new ≡ (explore_of points end room table.old).1 }
 {
-    let mut head = [0u16; CHAINS];
-    let mut link = [0u16; MOST_PAIRS];
+    let mut index = Index::of_one();
     let mut w = Window::fresh(1);
     let mut count: usize = 1;
-    let mut d: usize = 0;
-    while d < 2 * count {
-        w = current(table, w, d);
-        let k = table::point_at(table, d / 2);
-        let point = points[k % POINTS];
-        let turn = one_move(point, w, end, table, &mut head, &mut link, n, count, d);
-        match turn {
-            Turn::On(m) => {
-                count = m;
-                d = d + 1;
-            }
-            Turn::Full => {
-                return Search::Full;
-            }
-            Turn::Breaking => {
-                return Search::Breaking(count, d);
-            }
-            Turn::Failing => {
-                return Search::Failing(count, d);
-            }
-        }
+    let mut number: usize = 0;
+    while number < 2 * count {
+        w = current(table, w, number);
+        let point = points[table::point_at(table, number / 2) % POINTS];
+        let turn = Turn {
+            end,
+            room,
+            count,
+            number,
+        };
+        count = turn.perform(point, w, table, &mut index)?;
+        number += 1;
     }
-    Search::Pass(count)
+    Ok(count)
 }
 
 /// The whole search in a table that holds n pairs: from the pair of the first point and the fresh window on. `end` is the number of points.
-/// For a caller that has counted the table's room, and whose points were read.
+/// The count of the pairs, or why it stops. For a caller that has counted the table's room, and whose points were read.
 pub fn search_pairs(
     header: Header,
     points: [PointEntry; POINTS],
     end: usize,
     table: &mut [u8],
     n: usize,
-) -> Search
-    requires { (n ≤ most_pairs) × (record_bytes * n ≤ length table.old) × AllWithin points }
-    ensures { (result ≡ (search_of header points end n table.old).0) × (table.new ≡ (search_of header points end n table.old).1) }
+) -> Result<usize, Stop>
+    requires most { n ≤ most_pairs }
+    requires fits { record_bytes * n ≤ length table.old }
+    requires within { AllWithin points }
+    ensures value { result ≡ (search_of header points end n table.old).0 }
+    ensures table { table.new ≡ (search_of header points end n table.old).1 }
 {
     if end == 0 {
-        return Search::Pass(0);
+        return Ok(0);
     }
     if n == 0 {
-        return Search::Full;
+        return Err(Stop::Full);
     }
-    let w = Window::fresh(header.registers);
-    let pair = records::encode(0, w);
+    let pair = records::encode(0, Window::fresh(header.registers));
     table::put(table, 0, pair, 0, 0);
     explore(points, end, table, n)
 }

@@ -11,7 +11,7 @@ use Rattle.letters.specs.Capacity.{most_pairs}
 use Rattle.base.proofs.Theory.Choice.{by_test}
 use Rattle.records.specs.Records.{record_bytes, encoded, record_of}
 use Rattle.table.specs.Table.{put_at}
-use Rattle.exploration.specs.declared.Search.TheVariants as found
+use Rattle.std.specs.Prelude.{Ok}
 use Rattle.exploration.specs.Exploring.{explore_of, search_of}
 use Rattle.exploration.specs.Given.{Given}
 use Rattle.exploration.proofs.Theory.Given.{header, end, held, fresh}
@@ -31,6 +31,6 @@ module _ (given : Given) (n : ℕ) (t : List ℕ) (most : n ≤ most_pairs) (roo
       some_point = let z = eqb-false (end given) 0 e in omega arith
 
   -- Without a point nothing is searched.
-  pub search_empty : eqb (end given) 0 ≡ true → search_of (header given) (held given) (end given) n t ≡ (found.Pass 0, t)
+  pub search_empty : eqb (end given) 0 ≡ true → search_of (header given) (held given) (end given) n t ≡ (Ok 0, t)
   unfolding search_of
   search_empty e = rw e refl

@@ -25,10 +25,9 @@ use Rattle.records.proofs.Theory.Storable.{Storable}
 use Rattle.table.specs.Table.{put_at, point_at, window_at}
 use Rattle.table.proofs.Theory.TableLaws.{PairStored}
 use Rattle.stored.proofs.Theory.Stored.{storable}
-use Rattle.exploration.specs.declared.Turn.{Turn}
-use Rattle.exploration.specs.declared.Turn.TheVariants.{On, Full, Breaking, Failing}
-use Rattle.exploration.specs.declared.Search.{Search}
-use Rattle.exploration.specs.declared.Search.TheVariants as found
+use Rattle.std.specs.Prelude.{Result, Ok, Err}
+use Rattle.exploration.specs.declared.Stop.{Stop}
+use Rattle.exploration.specs.declared.Stop.TheVariants.{Full, Breaking, Failing}
 use Rattle.exploration.specs.Turns.{turn_of, table_of}
 use Rattle.exploration.specs.Exploring.{point_of, on_turn, explore_from}
 use Rattle.exploration.proofs.Theory.Store.{branch_numbered, listed, written, put_long}
@@ -49,16 +48,16 @@ module _ (given : Given) where
     pub happens : step given (point_at t (d / 2), window_at t (d / 2)) (branch_numbered (d % 2)) ≡ event kind
 
   -- How the search has ended, with the table t, which holds n pairs.
-  abbrev pub SearchEnded : ℕ → Search → List ℕ → Type 0
-  SearchEnded n found.Full t = Passing given n
-  SearchEnded n (found.Pass k) t = Going given n k (2 * k) t
-  SearchEnded n (found.Breaking k d) t = Met n breaking k d t
-  SearchEnded n (found.Failing k d) t = Met n failing k d t
+  abbrev pub SearchEnded : ℕ → Result ℕ Stop → List ℕ → Type 0
+  SearchEnded n (Err Full) t = Passing given n
+  SearchEnded n (Ok k) t = Going given n k (2 * k) t
+  SearchEnded n (Err (Breaking k d)) t = Met n breaking k d t
+  SearchEnded n (Err (Failing k d)) t = Met n failing k d t
 
-  abbrev EndedAs : ℕ → Search × List ℕ → Type 0
+  abbrev EndedAs : ℕ → Result ℕ Stop × List ℕ → Type 0
   EndedAs n r = SearchEnded n r.0 r.1
 
-  finished : (n count d : ℕ) (t : List ℕ) → Going given n count d t → 2 * count ≤ d → SearchEnded n (found.Pass count) t
+  finished : (n count d : ℕ) (t : List ℕ) → Going given n count d t → 2 * count ≤ d → SearchEnded n (Ok count) t
   finished n count d t g l = subst (λ e. Going given n count e t) (let b = g.behind in omega arith) g
 
   -- every end is one of these
@@ -75,13 +74,13 @@ module _ (given : Given) where
       x : PointEntry
       x = point_of (held given) t (d / 2)
 
-      after : (r : Turn) (u : List ℕ) → d < 2 * count → Turned given n count d t r u
+      after : (r : Result ℕ Stop) (u : List ℕ) → d < 2 * count → Turned given n count d t r u
           → ((m : ℕ) (v : List ℕ) → Going given n m (d + 1) v → EndedAs n (explore_from f (held given) (end given) n m (d + 1) v))
-          → EndedAs n (on_turn r u count d λ m. explore_from f (held given) (end given) n m (d + 1) u)
-      after (On m) u q z ih = ih m u z
-      after Full u q z ih = z
-      after Breaking u q z ih = subst (λ v. SearchEnded n (found.Breaking count d) v) (sym z.1) (record { going = g; due = q; happens = z.0 })
-      after Failing u q z ih = subst (λ v. SearchEnded n (found.Failing count d) v) (sym z.1) (record { going = g; due = q; happens = z.0 })
+          → EndedAs n (on_turn r u λ m. explore_from f (held given) (end given) n m (d + 1) u)
+      after (Ok m) u q z ih = ih m u z
+      after (Err Full) u q z ih = z
+      after (Err (Breaking k e)) u q (happens, leaves, a, b) ih = rw (leaves, a, b) (record { going = g; due = q; happens = happens })
+      after (Err (Failing k e)) u q (happens, leaves, a, b) ih = rw (leaves, a, b) (record { going = g; due = q; happens = happens })
 
   -- a search begins at point 0, where there is one
   starts_at : 0 < end given → starts given ≡ some (0, fresh given)

@@ -36,8 +36,9 @@ use Rattle.table.proofs.Theory.TableLaws.{PairStored, found as found_pair, nowhe
 use Rattle.stored.proofs.Theory.Stored.{storable}
 use Rattle.exploration.specs.declared.PointMove as enum
 use Rattle.exploration.specs.declared.PointMove.TheVariants.{Nothing, Goes, Fails}
-use Rattle.exploration.specs.declared.Turn.{Turn}
-use Rattle.exploration.specs.declared.Turn.TheVariants.{On, Full, Breaking, Failing}
+use Rattle.std.specs.Prelude.{Result, Ok, Err}
+use Rattle.exploration.specs.declared.Stop.{Stop}
+use Rattle.exploration.specs.declared.Stop.TheVariants.{Full, Breaking, Failing}
 use Rattle.exploration.specs.Moves.{move_of}
 use Rattle.exploration.specs.Turns.{reach_turn, reach_table, fail_turn, taken_turn, taken_table, turn_of, table_of}
 use Rattle.exploration.specs.Exploring.{point_of}
@@ -83,11 +84,13 @@ module _ (given : Given) where
     pub room : record_bytes * n ≤ length t
 
   -- What a move comes to.
-  abbrev pub Turned : ℕ → ℕ → ℕ → List ℕ → Turn → List ℕ → Type 0
-  Turned n count d t (On m) u = Going n m (d + 1) u
-  Turned n count d t Full u = Passing n
-  Turned n count d t Breaking u = (step (point_at t (d / 2), window_at t (d / 2)) (branch_numbered (d % 2)) ≡ event breaking) × (u ≡ t)
-  Turned n count d t Failing u = (step (point_at t (d / 2), window_at t (d / 2)) (branch_numbered (d % 2)) ≡ event failing) × (u ≡ t)
+  abbrev pub Turned : ℕ → ℕ → ℕ → List ℕ → Result ℕ Stop → List ℕ → Type 0
+  Turned n count d t (Ok m) u = Going n m (d + 1) u
+  Turned n count d t (Err Full) u = Passing n
+  Turned n count d t (Err (Breaking k e)) u =
+      (step (point_at t (d / 2), window_at t (d / 2)) (branch_numbered (d % 2)) ≡ event breaking) × (u ≡ t) × (k ≡ count) × (e ≡ d)
+  Turned n count d t (Err (Failing k e)) u =
+      (step (point_at t (d / 2), window_at t (d / 2)) (branch_numbered (d % 2)) ≡ event failing) × (u ≡ t) × (k ≡ count) × (e ≡ d)
 
   module _ (n count d : ℕ) (t : List ℕ) (g : Going n count d t) (l : d < 2 * count) where
     abbrev i : ℕ
@@ -186,7 +189,7 @@ module _ (given : Given) where
           room = let y = put_long t count p (d / 2) (d % 2) v fits fits_record in let r = g.room in omega arith;
         }
 
-      found : Turned n count d t (pick (is_listed t count (encoded p v)) (λ _. On count) λ _. pick (eqb count n) (λ _. Full) λ _. On (count + 1))
+      found : Turned n count d t (pick (is_listed t count (encoded p v)) (λ _. Ok count) λ _. pick (eqb count n) (λ _. Err Full) λ _. Ok (count + 1))
           (pick (is_listed t count (encoded p v)) (λ _. t) λ _. pick (eqb count n) (λ _. t) λ _. put_at t count (record_of (encoded p v) (d / 2) (d % 2)))
       found = by_test (is_listed t count (encoded p v))
           (λ f. rw f (listed_already f))
@@ -218,15 +221,15 @@ module _ (given : Given) where
           at_pair true z = refl
           at_pair false z = absurd (let y : ◌≡◌ {A = ℕ} 0 1 = cc in omega arith)
 
-      failed : step (k, w) b ≡ reached performing infeasible_in (end given) failure (perform_of w a) → Turned n count d t (fail_turn (perform_of w a) count) t
+      failed : step (k, w) b ≡ reached performing infeasible_in (end given) failure (perform_of w a) → Turned n count d t (fail_turn (perform_of w a) count d) t
       unfolding fail_turn
       failed e = by_test (perform_of w a).infeasible
           (λ y. rw y (stopped (e ∙ ap (λ z. elim z [ true ↦ stop | false ↦ event failing ]) y)))
-          (λ y. rw y (e ∙ ap (λ z. elim z [ true ↦ stop | false ↦ event failing ]) y, refl))
+          (λ y. rw y (e ∙ ap (λ z. elim z [ true ↦ stop | false ↦ event failing ]) y, refl, refl, refl))
 
     -- the branch that the move takes
     taken : (o : enum.PointMove) → moves_at (points (body given)) k b ≡ meant o
-        → Turned n count d t (taken_turn o w (end given) n count t) (taken_table o w (end given) n count d t)
+        → Turned n count d t (taken_turn o w (end given) n count d t) (taken_table o w (end given) n count d t)
     unfolding taken_turn taken_table
     taken Nothing e = stopped (ap (moving performing infeasible_in (end given) w) e)
     taken (Goes a p) e = by_test (judge_of w a)
@@ -236,6 +239,8 @@ module _ (given : Given) where
           ap (moving performing infeasible_in (end given) w) e
               ∙ ap (performed performing infeasible_in (end given) (at p)) (performing_no w a y),
           refl,
+          refl,
+          refl,
         ))
     taken (Fails a) e = by_test (judge_of w a)
         (λ y. rw y (failed a (subst (FitsMove (header given)) e (moves_fit given k b)) y
@@ -243,6 +248,8 @@ module _ (given : Given) where
         (λ y. rw y (
           ap (moving performing infeasible_in (end given) w) e
               ∙ ap (performed performing infeasible_in (end given) failure) (performing_no w a y),
+          refl,
+          refl,
           refl,
         ))
 
