@@ -11,3 +11,4 @@ pub mod Judged
 pub mod MacroExecutions
 pub mod MacroExecutionsExample
 pub mod Answerable
+pub mod Writing

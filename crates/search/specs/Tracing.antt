@@ -9,6 +9,10 @@ use Rattle.letters.specs.Encoding.{encode_header, encode_letter}
 use Rattle.traces.specs.Traces.{bytes_of}
 use Rattle.table.specs.Table.{parent_at}
 
+-- The bytes of a word.
+abbrev pub unit_bytes : ℕ
+unit_bytes = first_edition.bytes
+
 -- The bytes of the longest trace: a header, and as many letters as the whole-trace engine takes.
 abbrev pub trace_bytes : ℕ
 trace_bytes = first_edition.bytes + first_edition.bytes * most_letters

@@ -1,12 +1,12 @@
 // The verdict on a macro: what the search over its pairs has found, with the packed trace of an execution and its model.
 #![tactic(auto)]
 
-ghost use Rattle.std.specs.Prelude.{◌≡◌, ◌+◌, ◌*◌, ◌/◌, ◌≤◌, ◌<◌, length, drop, ◌++◌};
+ghost use Rattle.std.specs.Prelude.{◌≡◌, ◌+◌, ◌*◌, ◌/◌, ◌%◌, ◌≤◌, ◌<◌, ◌∷◌, length, drop, ◌++◌};
 ghost use Rattle.records.specs.Records.{record_bytes};
 ghost use Rattle.letters.specs.Editions.{first_edition};
 ghost use Rattle.letters.specs.Encoding.{encode_header, encode_letter};
-ghost use Rattle.search.specs.Trails.{trail_of};
-ghost use Rattle.search.specs.Tracing.{trace_bytes, last_letter, most_moves, Older, word_or_zero, traced};
+ghost use Rattle.search.specs.Trails.{letter_of_branch, trail_of};
+ghost use Rattle.search.specs.Tracing.{unit_bytes, trace_bytes, last_letter, most_moves, Older, word_or_zero, traced};
 ghost use Rattle.search.specs.Modelling.{ModelWrittenBehind};
 ghost use Rattle.search.specs.Answering.{answer_of, Delivers};
 ghost use Rattle.semantics.specs.Models.{Feasible};
@@ -15,7 +15,7 @@ ghost use Rattle.verdict_theory.specs.Verdict.{breaking, failing};
 ghost use Rattle.search.specs.MacroSearch.{HoldsMacro, Tells};
 
 use blocks::PointEntry;
-use exploration::{POINTS, Search, letter_of, search_pairs};
+use exploration::{POINTS, Stop, letter_of, search_pairs};
 use letters::limits::{MOST_LETTERS, UNIT_BYTES};
 use letters::refusal_numbers::{OUTPUT_TOO_SMALL, TABLE_TOO_SMALL};
 use letters::words::{encode_header, encode_letter};
@@ -28,11 +28,6 @@ use syntax::CompiledMacro;
 /// How many bytes the longest trace has: a header, and as many letters as the whole-trace engine takes.
 pub const TRACE_BYTES: usize = UNIT_BYTES + UNIT_BYTES * MOST_LETTERS;
 
-// The last two of them, where the last letter stands.
-const LAST_LETTER: usize = TRACE_BYTES - UNIT_BYTES;
-
-const LAST_BYTE: usize = TRACE_BYTES - 1;
-
 /// A packed trace, at the end of the bytes, from `start` on.
 #[derive(Clone, Copy)]
 pub struct Packed {
@@ -40,6 +35,50 @@ pub struct Packed {
     pub bytes: [u8; TRACE_BYTES],
     /// Where the trace begins.
     pub start: usize,
+}
+
+impl Packed {
+    // Puts a word before the trace.
+    fn put(&mut self, word: u16)
+        requires room { unit_bytes ≤ self.old.start }
+        requires within { self.old.start ≤ trace_bytes }
+        ensures bytes { drop self.new.start self.new.bytes ≡ word / 256 ∷ word % 256 ∷ drop self.old.start self.old.bytes }
+        ensures start { self.new.start + unit_bytes ≡ self.old.start }
+    {
+        self.start -= UNIT_BYTES;
+        self.bytes[self.start..self.start + UNIT_BYTES].copy_from_slice(&word.to_be_bytes());
+    }
+
+    // The trace.
+    fn trace(&self) -> &[u8]
+        requires { self.now.start ≤ trace_bytes }
+        ensures { result.now ≡ drop self.now.start self.now.bytes }
+    {
+        &self.bytes[self.start..]
+    }
+
+    // Writes the trace over the front of the output, and leaves the bytes behind it.
+    fn write(&self, output: &mut [u8])
+        requires within { self.now.start ≤ trace_bytes }
+        requires room { trace_bytes ≤ self.now.start + length output.old }
+        ensures { output.new ≡ drop self.now.start self.now.bytes ++ drop (length (drop self.now.start self.now.bytes)) output.old }
+    {
+        let trace = self.trace();
+        output[..trace.len()].copy_from_slice(trace);
+    }
+
+    // Writes the shown model of the trace behind the place of the trace in the output; whether it fits.
+    fn show_behind(&self, output: &mut [u8]) -> bool
+        requires within { self.now.start ≤ trace_bytes }
+        requires room { trace_bytes ≤ self.now.start + length output.old }
+        ensures { ModelWrittenBehind (drop self.now.start self.now.bytes) output.old result output.new }
+    {
+        let trace = self.trace();
+        match show(trace, &mut output[trace.len()..]) {
+            Shown::Model(_) => true,
+            Shown::Infeasible(_) | Shown::Refused(..) => false,
+        }
+    }
 }
 
 // The word of a letter; 0 for one that is not well formed.
@@ -56,62 +95,37 @@ fn header_word(header: Header) -> u16
     encode_header(header).unwrap_or(0)
 }
 
-// The trace of the execution that move number d ends, written from its end.
-fn pack(header: Header, points: [PointEntry; POINTS], table: &[u8], d: usize) -> Packed
-    requires { (d < most_moves) × (record_bytes * (d / 2) + record_bytes ≤ length table.now) × Older table.now (d / 2 + 1) }
-    ensures { (drop result.start result.bytes ≡ traced header (trail_of points table.now d))
-        × (length result.bytes ≡ trace_bytes) × (result.start ≤ last_letter) }
+// The letter that a branch performs at pair j.
+fn letter_at(points: &[PointEntry; POINTS], table: &[u8], j: usize, branch: usize) -> Letter
+    requires { record_bytes * j + record_bytes ≤ length table.now }
+    ensures { result ≡ letter_of_branch points.now table.now j branch }
 {
-    let mut bytes = [0u8; TRACE_BYTES];
-    let k = table::point_at(table, d / 2);
-    let point = points[k % POINTS];
-    let last = letter_of(point, d % 2);
-    let word = letter_word(header, last);
-    bytes[LAST_LETTER] = (word / 256) as u8;
-    bytes[LAST_BYTE] = (word % 256) as u8;
-    let mut at: usize = LAST_LETTER;
+    letter_of(points[table::point_at(table, j) % POINTS], branch)
+}
+
+// The trace of the execution that move number d ends, written from its end.
+fn pack(header: Header, points: &[PointEntry; POINTS], table: &[u8], d: usize) -> Packed
+    requires few { d < most_moves }
+    requires fits { record_bytes * (d / 2) + record_bytes ≤ length table.now }
+    requires older { Older table.now (d / 2 + 1) }
+    ensures trace { drop result.start result.bytes ≡ traced header (trail_of points.now table.now d) }
+    ensures start { result.start ≤ last_letter }
+{
+    let mut packed = Packed {
+        bytes: [0; TRACE_BYTES],
+        start: TRACE_BYTES,
+    };
     let mut j = d / 2;
+    packed.put(letter_word(header, letter_at(points, table, j, d % 2)));
+    // The way leads from each pair to its parent: no iterator of the library walks along it.
     while j != 0 {
         let parent = table::parent_at(table, j);
-        let branch = table::branch_at(table, j);
-        let before = table::point_at(table, parent);
-        let performed = points[before % POINTS];
-        let letter = letter_of(performed, branch);
-        let next = letter_word(header, letter);
-        bytes[at - UNIT_BYTES] = (next / 256) as u8;
-        bytes[at - 1] = (next % 256) as u8;
-        at = at - UNIT_BYTES;
+        let letter = letter_at(points, table, parent, table::branch_at(table, j));
+        packed.put(letter_word(header, letter));
         j = parent;
     }
-    let first = header_word(header);
-    bytes[at - UNIT_BYTES] = (first / 256) as u8;
-    bytes[at - 1] = (first % 256) as u8;
-    Packed {
-        bytes: bytes,
-        start: at - UNIT_BYTES,
-    }
-}
-
-// Writes a packed trace over the front of the output, and leaves the bytes behind it.
-fn write_trace(packed: Packed, output: &mut [u8])
-    requires { (packed.start ≤ trace_bytes) × (trace_bytes ≤ packed.start + length output.old) }
-    ensures { output.new ≡ drop packed.start packed.bytes ++ drop (length (drop packed.start packed.bytes)) output.old }
-{
-    let bytes = packed.bytes;
-    copy_from(bytes, packed.start, output);
-}
-
-// The bytes from `start` on over the front of the output.
-fn copy_from(bytes: [u8; TRACE_BYTES], start: usize, output: &mut [u8])
-    requires { (start ≤ trace_bytes) × (trace_bytes ≤ start + length output.old) }
-    ensures { output.new ≡ drop start bytes ++ drop (length (drop start bytes)) output.old }
-{
-    let n = TRACE_BYTES - start;
-    let mut i: usize = 0;
-    while i < n {
-        output[i] = bytes[start + i];
-        i = i + 1;
-    }
+    packed.put(header_word(header));
+    packed
 }
 
 // ---- the answer for an event
@@ -129,54 +143,33 @@ pub enum Verdict {
     Refused(u8, usize),
 }
 
-// Writes the shown model of the trace in the bytes from `start` on behind the place of the trace in the output; whether it fits.
-fn show_model(bytes: [u8; TRACE_BYTES], start: usize, output: &mut [u8]) -> bool
-    requires { (start ≤ trace_bytes) × (trace_bytes ≤ start + length output.old) }
-    ensures { ModelWrittenBehind (drop start bytes) output.old result output.new }
-{
-    let n = TRACE_BYTES - start;
-    let shown = show(&bytes[start..], &mut output[n..]);
-    match shown {
-        Shown::Model(k) => {
-            return true;
-        }
-        Shown::Infeasible(k) => {
-            return false;
-        }
-        Shown::Refused(number, place) => {
-            return false;
-        }
-    }
-}
-
 // The answer for an incoherent execution of so many pairs: its trace, if it fits the output.
-fn deliver_incoherent(packed: Packed, count: usize, output: &mut [u8]) -> Verdict
-    requires { packed.start ≤ last_letter }
-    ensures { Delivers breaking packed count output.old result output.new }
+fn deliver_incoherent(packed: &Packed, count: usize, output: &mut [u8]) -> Verdict
+    requires { packed.now.start ≤ last_letter }
+    ensures { Delivers breaking packed.now count output.old result output.new }
 {
     let n = TRACE_BYTES - packed.start;
     if output.len() < n {
         return Verdict::Refused(OUTPUT_TOO_SMALL, 0);
     }
-    write_trace(packed, output);
+    packed.write(output);
     Verdict::Incoherent(count, (n - UNIT_BYTES) / UNIT_BYTES)
 }
 
 // The answer for a failing execution: its trace and then its model, if they fit the output. The model is written first: it alone can fail to fit.
-fn deliver_failing(packed: Packed, count: usize, output: &mut [u8]) -> Verdict
-    requires { packed.start ≤ last_letter }
-    ensures { Delivers failing packed count output.old result output.new }
+fn deliver_failing(packed: &Packed, count: usize, output: &mut [u8]) -> Verdict
+    requires { packed.now.start ≤ last_letter }
+    ensures { Delivers failing packed.now count output.old result output.new }
 {
     let n = TRACE_BYTES - packed.start;
     if output.len() < n {
         return Verdict::Refused(OUTPUT_TOO_SMALL, 0);
     }
-    let bytes = packed.bytes;
-    if show_model(bytes, packed.start, output) {
-        write_trace(packed, output);
-        return Verdict::Fail(count, (n - UNIT_BYTES) / UNIT_BYTES);
+    if !packed.show_behind(output) {
+        return Verdict::Refused(OUTPUT_TOO_SMALL, 0);
     }
-    Verdict::Refused(OUTPUT_TOO_SMALL, 0)
+    packed.write(output);
+    Verdict::Fail(count, (n - UNIT_BYTES) / UNIT_BYTES)
 }
 
 // ---- the search over a macro
@@ -188,23 +181,15 @@ fn search_macro(program: CompiledMacro, table: &mut [u8], output: &mut [u8]) -> 
 {
     let n = table::capacity(table.len());
     let header = program.header;
-    let points = program.points;
     let end = program.count as usize;
-    let found = search_pairs(header, points, end, table, n);
-    match found {
-        Search::Full => {
-            return Verdict::Refused(TABLE_TOO_SMALL, 0);
+    match search_pairs(header, program.points, end, table, n) {
+        Ok(count) => Verdict::Pass(count),
+        Err(Stop::Full) => Verdict::Refused(TABLE_TOO_SMALL, 0),
+        Err(Stop::Breaking(count, d)) => {
+            deliver_incoherent(&pack(header, &program.points, table, d), count, output)
         }
-        Search::Pass(count) => {
-            return Verdict::Pass(count);
-        }
-        Search::Breaking(count, d) => {
-            let packed = pack(header, points, table, d);
-            return deliver_incoherent(packed, count, output);
-        }
-        Search::Failing(count, d) => {
-            let packed = pack(header, points, table, d);
-            return deliver_failing(packed, count, output);
+        Err(Stop::Failing(count, d)) => {
+            deliver_failing(&pack(header, &program.points, table, d), count, output)
         }
     }
 }

@@ -28,8 +28,9 @@ use Rattle.verdict_theory.specs.Verdict.{Kind, breaking, failing, showing, Deliv
 use Rattle.verdict_theory.specs.AnswerPacking.{packed}
 use Rattle.records.specs.Records.{record_bytes}
 use Rattle.search.specs.declared.Packed.{Packed}
-use Rattle.exploration.specs.declared.Search.{Search}
-use Rattle.exploration.specs.declared.Search.TheVariants as found
+use Rattle.std.specs.Prelude.{Result, Ok, Err}
+use Rattle.exploration.specs.declared.Stop.{Stop}
+use Rattle.exploration.specs.declared.Stop.TheVariants.{Full, Breaking, Failing}
 use Rattle.search.specs.declared.Verdict as answer
 use Rattle.search.specs.declared.Verdict.TheVariants.{Pass, Refused}
 use Rattle.exploration.specs.LetterBounds.{AllWithin}
@@ -48,11 +49,11 @@ use Rattle.search.specs.Answering.{answer_of, Packs, Delivers}
 use Rattle.search.specs.MacroSearch.{HoldsMacro, search_on, Tells}
 
 -- How the search ends at an event of either kind.
-abbrev pub found_event : Kind → ℕ → ℕ → Search
-found_event breaking k d = found.Breaking k d
-found_event failing k d = found.Failing k d
+abbrev pub found_event : Kind → ℕ → ℕ → Result ℕ Stop
+found_event breaking k d = Err (Breaking k d)
+found_event failing k d = Err (Failing k d)
 
-not_pass : (kind : Kind) (k d : ℕ) → found_event kind k d ≢ found.Pass 0
+not_pass : (kind : Kind) (k d : ℕ) → found_event kind k d ≢ Ok 0
 not_pass breaking k d e = let z : ◌≡◌ {A = ℕ} 0 1 = cc in omega arith
 not_pass failing k d e = let z : ◌≡◌ {A = ℕ} 0 1 = cc in omega arith
 
@@ -157,7 +158,7 @@ module _ (program : struct.CompiledMacro) (given : Given) (holds : held_macro gi
           (event_possible given (capacity_of first_edition (length t)) t most room kind k d e))
 
 -- ── what the code has found ──
-module _ (program : struct.CompiledMacro) (t output : List ℕ) (n : ℕ) (r : Search) (u : List ℕ) (c : n ≡ capacity_of first_edition (length t))
+module _ (program : struct.CompiledMacro) (t output : List ℕ) (n : ℕ) (r : Result ℕ Stop) (u : List ℕ) (c : n ≡ capacity_of first_edition (length t))
     (e : r ≡ (search_of program.header program.points program.count n t).0)
     (f : u ≡ (search_of program.header program.points program.count n t).1) where
   ends : r ≡ (search_on program t).0
@@ -166,17 +167,17 @@ module _ (program : struct.CompiledMacro) (t output : List ℕ) (n : ℕ) (r : S
   leaves : u ≡ (search_on program t).1
   leaves = f ∙ ap (λ n. (search_of program.header program.points program.count n t).1) c
 
-  abbrev Tell : Search → answer.Verdict → List ℕ → Type 0
+  abbrev Tell : Result ℕ Stop → answer.Verdict → List ℕ → Type 0
   Tell z v output' = SearchAnswered program.header program.points first_edition output z (search_on program t).1 (answer_of v) output'
 
-  told : (z : Search) → r ≡ z → (v : answer.Verdict) (output' : List ℕ) → Tell z v output' → Tells program t output v output'
+  told : (z : Result ℕ Stop) → r ≡ z → (v : answer.Verdict) (output' : List ℕ) → Tell z v output' → Tells program t output v output'
   told z y v output' = subst (λ z. Tell z v output') (sym y ∙ ends)
 
-  pub told_full : r ≡ found.Full → Tells program t output (Refused table_too_small 0) output
-  told_full y = told found.Full y (Refused table_too_small 0) output (refl, refl)
+  pub told_full : r ≡ Err Full → Tells program t output (Refused table_too_small 0) output
+  told_full y = told (Err Full) y (Refused table_too_small 0) output (refl, refl)
 
-  pub told_pass : (k : ℕ) → r ≡ found.Pass k → Tells program t output (Pass k) output
-  told_pass k y = told (found.Pass k) y (Pass k) output (refl, refl)
+  pub told_pass : (k : ℕ) → r ≡ Ok k → Tells program t output (Pass k) output
+  told_pass k y = told (Ok k) y (Pass k) output (refl, refl)
 
   module _ (x : HoldsMacro program) (k d : ℕ) where
     pub packable : (kind : Kind) → r ≡ found_event kind k d → (d < most_moves) × (record_bytes * (d / 2) + record_bytes ≤ length u) × Older u (d / 2 + 1)
@@ -188,10 +189,10 @@ module _ (program : struct.CompiledMacro) (t output : List ℕ) (n : ℕ) (r : S
       abbrev packed_so : drop p.start p.bytes ≡ traced program.header (trail_of program.points (search_on program t).1 d)
       packed_so = b ∙ ap (λ u. traced program.header (trail_of program.points u d)) leaves
 
-      pub told_incoherent : r ≡ found.Breaking k d → Delivers breaking p k output v output' → Tells program t output v output'
-      told_incoherent y z = told (found.Breaking k d) y v output'
+      pub told_incoherent : r ≡ Err (Breaking k d) → Delivers breaking p k output v output' → Tells program t output v output'
+      told_incoherent y z = told (Err (Breaking k d)) y v output'
           (event_delivered program x.0 x.1 t breaking k d p l output v output' z (sym ends ∙ y) packed_so)
 
-      pub told_failing : r ≡ found.Failing k d → Delivers failing p k output v output' → Tells program t output v output'
-      told_failing y z = told (found.Failing k d) y v output'
+      pub told_failing : r ≡ Err (Failing k d) → Delivers failing p k output v output' → Tells program t output v output'
+      told_failing y z = told (Err (Failing k d)) y v output'
           (event_delivered program x.0 x.1 t failing k d p l output v output' z (sym ends ∙ y) packed_so)

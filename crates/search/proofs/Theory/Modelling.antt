@@ -12,34 +12,20 @@ use Rattle.model_writer.specs.declared.Shown.{Shown}
 use Rattle.model_writer.specs.declared.Shown.TheVariants.{Model, Infeasible, Refused}
 use Rattle.search.specs.Modelling.{ModelWrittenBehind}
 
--- what stands in the output where the part behind the trace was lent and comes back
-abbrev pub output_with : (start : ℕ) (output back : List ℕ) → List ℕ
-output_with start output back =
-    let n = trace_bytes - start in take n output ++ (back ++ drop (length output - n) (drop n output))
-
 -- the model of s was shown behind s
 pub record ShownBehind (s output : List ℕ) (r : Shown) (output' : List ℕ) : Type 0 where
   pub back : List ℕ
   pub showed : Showed s (drop (length s) output) r back
   pub stands : output' ≡ take (length s) output ++ back
 
-module _ (bytes : List ℕ) (start : ℕ) (output : List ℕ) (r : Shown) (back : List ℕ) (b : length bytes ≡ trace_bytes) (l : start ≤ trace_bytes)
-    (w : Showed (take (trace_bytes - start) (drop start bytes)) (take (length output - (trace_bytes - start)) (drop (trace_bytes - start) output)) r back) where
-  abbrev s : List ℕ
-  s = drop start bytes
-
-  long : length s ≡ trace_bytes - start
-  long = simp length-drop (omega arith)
-
-  pub shown_behind : ShownBehind s output r (output_with start output back)
-  shown_behind = record {
-    back = back;
-    showed = subst (λ n. Showed s (drop n output) r back) (sym long)
-        (subst (λ x. Showed s x r back) (tail_lent (trace_bytes - start) output)
-        (subst (λ x. Showed x (take (length output - (trace_bytes - start)) (drop (trace_bytes - start) output)) r back)
-        (ap (λ n. take (n - start) (drop start bytes)) (sym b) ∙ tail_lent start bytes) w));
-    stands = tail_back (trace_bytes - start) output back ∙ ap (λ n. take n output ++ back) (sym long);
-  }
+pub shown_behind : (s output : List ℕ) (r : Shown) (back : List ℕ)
+    → Showed s (take (length output - length s) (drop (length s) output)) r back
+    → ShownBehind s output r (take (length s) output ++ (back ++ drop (length output - length s) (drop (length s) output)))
+shown_behind s output r back w = record {
+  back = back;
+  showed = subst (λ x. Showed s x r back) (tail_lent (length s) output) w;
+  stands = tail_back (length s) output back;
+}
 
 module _ {s output : List ℕ} {r : Shown} {output' : List ℕ} (b : ShownBehind s output r output') where
   pub modelled_yes : {k : ℕ} → r ≡ Model k → ModelWrittenBehind s output true output'

@@ -12,8 +12,9 @@ use Rattle.semantics.specs.Terms.{begin}
 use Rattle.semantics.specs.Models.{Feasible}
 use Rattle.verdict_theory.specs.Verdict.{VerdictAnswer, breaking, failing, IsVerdict}
 use Rattle.records.specs.Records.{record_bytes}
-use Rattle.exploration.specs.declared.Search.{Search}
-use Rattle.exploration.specs.declared.Search.TheVariants as found
+use Rattle.std.specs.Prelude.{Result, Ok, Err}
+use Rattle.exploration.specs.declared.Stop.{Stop}
+use Rattle.exploration.specs.declared.Stop.TheVariants.{Full, Breaking, Failing}
 use Rattle.exploration.specs.Exploring.{search_of}
 use Rattle.exploration.specs.Given.{Given}
 use Rattle.exploration.proofs.Theory.Given.{header, body, end, held}
@@ -31,15 +32,15 @@ module _ (given : Given) (n : ℕ) where
     same_right : {a b : VerdictAnswer} {o p : List ℕ} → (a ≡ b) × (o ≡ p) → Right b p → Right a o
     same_right {a} {b} {o} {p} (e, f) r = subst (λ x. Right x o) (sym e) (subst (Right b) (sym f) r)
 
-    ended_told : (r : Search) (u : List ℕ) → SearchEnded given n r u → (answer : VerdictAnswer) (output' : List ℕ)
+    ended_told : (r : Result ℕ Stop) (u : List ℕ) → SearchEnded given n r u → (answer : VerdictAnswer) (output' : List ℕ)
         → SearchAnswered (header given) (held given) edition output r u answer output' → Right answer output'
-    ended_told found.Full u y answer output' e = same_right e (concluded_full given edition n output y)
-    ended_told (found.Pass k) u y answer output' e = same_right e (concluded_pass given edition n output k u y)
-    ended_told (found.Breaking k d) u y answer output' z = concluded_event given n breaking k d u y edition output answer output' z
-    ended_told (found.Failing k d) u y answer output' z = concluded_event given n failing k d u y edition output answer output' z
+    ended_told (Err Full) u y answer output' e = same_right e (concluded_full given edition n output y)
+    ended_told (Ok k) u y answer output' e = same_right e (concluded_pass given edition n output k u y)
+    ended_told (Err (Breaking k d)) u y answer output' z = concluded_event given n breaking k d u y edition output answer output' z
+    ended_told (Err (Failing k d)) u y answer output' z = concluded_event given n failing k d u y edition output answer output' z
 
   module _ (t : List ℕ) (most : n ≤ most_pairs) (room : record_bytes * n ≤ length t) where
-    abbrev ending : Search × List ℕ
+    abbrev ending : Result ℕ Stop × List ℕ
     ending = search_of (header given) (held given) (end given) n t
 
     -- The whole search.
