@@ -2,10 +2,9 @@
 use mathlib.Core.Path.{◌≡◌, sym, ap, ◌∙◌, subst}
 use mathlib.Core.Bool.{true, false}
 use mathlib.Core.List.{List, ◌++◌}
-use Prim.Native.Nat.{ℕ, ◌-◌, ◌≤◌}
+use Prim.Native.Nat.{ℕ, ◌-◌}
 use native.Mathlib.Omega.{arith}
-use lib.ListN.{length, take, drop, length-drop}
-use Rattle.search.specs.Tracing.{trace_bytes}
+use lib.ListN.{length, take, drop}
 use Rattle.base.proofs.Theory.Lent.{tail_lent, tail_back}
 use Rattle.model_writer.specs.Answer.{shown_answer, ModelAnswer, Showed}
 use Rattle.model_writer.specs.declared.Shown.{Shown}

@@ -1,4 +1,4 @@
-use Rattle.std.proofs.Common.{rules, subst, drop}
+use Rattle.std.proofs.Common.{subst, drop}
 use Rattle.search.specs.Modelling.{ModelWrittenBehind}
 use Rattle.search.proofs.Theory.Answering.{failing_refused, failing_shown, failing_unfit}
 use Rattle.search.proofs.deliver_failing.Goals as goal

@@ -1,4 +1,4 @@
-use Rattle.std.proofs.Common.{rules, arith, sym, ap, ◌∙◌, ◌≡◌, ◌+◌, ◌/◌, ◌%◌, [], ◌∷◌}
+use Rattle.std.proofs.Common.{arith, ap, ◌∙◌, ◌+◌, ◌/◌, [], ◌∷◌}
 use Rattle.search.specs.Trails.{trail_of}
 use Rattle.search.specs.Tracing.{traced}
 use Rattle.search.proofs.Theory.TracingLaws.{none_written, letter_before, header_before, trail_first, trail_turn, trail_whole}
