@@ -1,13 +1,11 @@
 -- Parts laid one after the other over the front of a list, and what the functions return from what their calls ensure.
 use mathlib.Core.Path.{◌≡◌, refl, sym, ap, ◌∙◌}
-use Prim.Native.Nat.{ℕ, ◌+◌, ◌*◌, ◌/◌, ◌%◌, ◌≤◌, ◌<◌}
+use Prim.Native.Nat.{ℕ, ◌+◌, ◌≤◌}
 use native.Mathlib.Omega.{arith}
-use native.Mathlib.Nat.{div-one}
-use mathlib.Core.List.{List, [], ◌∷◌, ◌++◌, map, append_assoc, append-nil}
+use mathlib.Core.List.{List, [], ◌++◌, map, append_assoc, append-nil}
 use lib.ListN.{length, get_or, take, drop, length-append, length-take, length-drop, take-append-drop, drop_of_length-le}
 use lib.Seq.{take_at, drop_at, drop-drop}
 use Rattle.letters.specs.Packing.{join, split}
-use Rattle.letters.proofs.Theory.Packing.{join_split}
 use Rattle.records.specs.Records.{flag}
 use Rattle.streaming.specs.declared.Monitor.{Monitor}
 use Rattle.streaming.specs.declared.Stream.{Stream}
@@ -88,29 +86,6 @@ pub copied : (b s zero : List ℕ) (at n k : ℕ) → k ≡ n → length zero �
 copied b s zero at n k e z l q =
     let m : length (take k (drop at s)) ≡ n = simp (length-take, length-drop) (omega arith) in
     q ∙ rw (drop_of_length-le zero {i = 0 + length (take k (drop at s))} (omega arith), append-nil (take k (drop at s)), e)
-
--- eight bytes as a number
-pub eight_joined : (b : List ℕ) → length b ≡ 8
-    → (get_or b 0 0 * 16777216 + get_or b 1 0 * 65536 + get_or b 2 0 * 256 + get_or b 3 0) * 4294967296
-    + (get_or b 4 0 * 16777216 + get_or b 5 0 * 65536 + get_or b 6 0 * 256 + get_or b 7 0) ≡ join eight_octets b
-eight_joined [] l = absurd (omega arith)
-eight_joined (a ∷ []) l = absurd (omega arith)
-eight_joined (a ∷ b ∷ []) l = absurd (omega arith)
-eight_joined (a ∷ b ∷ c ∷ []) l = absurd (omega arith)
-eight_joined (a ∷ b ∷ c ∷ d ∷ []) l = absurd (omega arith)
-eight_joined (a ∷ b ∷ c ∷ d ∷ e ∷ []) l = absurd (omega arith)
-eight_joined (a ∷ b ∷ c ∷ d ∷ e ∷ f ∷ []) l = absurd (omega arith)
-eight_joined (a ∷ b ∷ c ∷ d ∷ e ∷ f ∷ g ∷ []) l = absurd (omega arith)
-eight_joined (a ∷ b ∷ c ∷ d ∷ e ∷ f ∷ g ∷ h ∷ []) l = omega arith
-eight_joined (a ∷ b ∷ c ∷ d ∷ e ∷ f ∷ g ∷ h ∷ i ∷ s) l = absurd (omega arith)
-
-pub octets_are : (n : ℕ) (b : List ℕ) → n < 18446744073709551616 → b ≡ split eight_octets n → (b ≡ split eight_octets n) × (join eight_octets b ≡ n)
-octets_are n b l e = (e, ap (join eight_octets) e ∙ join_split eight_octets n l)
-
-pub last_octet : (n : ℕ)
-    → n / 72057594037927936 % 256 ∷ n / 281474976710656 % 256 ∷ n / 1099511627776 % 256 ∷ n / 4294967296 % 256 ∷ n / 16777216 % 256 ∷ n / 65536 % 256
-    ∷ n / 256 % 256 ∷ n % 256 ∷ [] ≡ split eight_octets n
-last_octet n = rw (div-one n)
 
 -- ---- a monitor and a stream stored
 

@@ -11,7 +11,6 @@ ghost use Rattle.states.specs.States.{tail_then, stream_in, KeepsStream};
 use letters::Header;
 use records::{flagged, flags, lay, marks};
 use streaming::{Monitor, Phase, Run, RunAnswer, Stream};
-use tokens::wide;
 use window::{LINES, Mask, REGISTERS, RESULTS, Window};
 
 // The bytes of a state's head, of a stream's tail, which is behind its monitor and before its numbers, and of a number.
@@ -53,25 +52,14 @@ fn octets(n: u64) -> [u8; NUMBER_SIZE]
     ensures value { result ≡ split eight_octets n }
     ensures back { join eight_octets result ≡ n }
 {
-    [
-        (n / 72057594037927936 % 256) as u8,
-        (n / 281474976710656 % 256) as u8,
-        (n / 1099511627776 % 256) as u8,
-        (n / 4294967296 % 256) as u8,
-        (n / 16777216 % 256) as u8,
-        (n / 65536 % 256) as u8,
-        (n / 256 % 256) as u8,
-        (n % 256) as u8,
-    ]
+    n.to_be_bytes()
 }
 
 // The number in eight bytes.
 fn number(b: [u8; NUMBER_SIZE]) -> u64
     ensures { result ≡ join eight_octets b }
 {
-    let high = wide(b[0]) * 16777216 + wide(b[1]) * 65536 + wide(b[2]) * 256 + wide(b[3]);
-    let low = wide(b[4]) * 16777216 + wide(b[5]) * 65536 + wide(b[6]) * 256 + wide(b[7]);
-    high * 4294967296 + low
+    u64::from_be_bytes(b)
 }
 
 // ---- parts of a state
@@ -82,8 +70,7 @@ fn eight_at(state: &[u8], at: usize) -> [u8; NUMBER_SIZE]
     ensures { result ≡ take number_size (drop at state.now) }
 {
     let mut bytes = [0u8; NUMBER_SIZE];
-    let end = at + NUMBER_SIZE;
-    lay(&mut bytes, 0, &state[at..end]);
+    bytes.copy_from_slice(&state[at..at + NUMBER_SIZE]);
     bytes
 }
 

@@ -2,11 +2,11 @@
 use mathlib.Core.Path.{◌≡◌, refl, sym, ap, ◌∙◌}
 use Prim.Native.Nat.{ℕ, ◌+◌}
 use native.Mathlib.Omega.{arith}
-use mathlib.Core.List.{List, [], ◌∷◌, ◌++◌, map, append_assoc}
+use mathlib.Core.List.{List, ◌++◌, map, append_assoc}
 use lib.ListN.{length, get_or, take, drop, length-append}
 use lib.Seq.{take_at, drop_at, drop-drop, get_or-drop}
 use Rattle.letters.specs.Packing.{join, split}
-use Rattle.records.specs.Records.{flag, is_set}
+use Rattle.records.specs.Records.{flag}
 use Rattle.records.proofs.Theory.Storable.{flag_back, flags_back}
 use Rattle.streaming.specs.declared.Monitor.{Monitor}
 use Rattle.streaming.specs.declared.Phase.{Phase}
