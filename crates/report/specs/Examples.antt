@@ -36,7 +36,11 @@ example_row f a b r = record { function = f; first = a; second = b; result = r }
 
 -- A row of a function of one argument has that argument twice.
 abbrev pub example_tables : Tables
-example_tables = record { count = 9; starts = 1 ∷ 2 ∷ 3 ∷ 4 ∷ []; rows = example_row 1 1 2 5 ∷ example_row 0 1 1 6 ∷ example_row 1 6 2 7 ∷ example_row 0 5 5 8 ∷ [] }
+example_tables = record {
+  count = 9;
+  starts = 1 ∷ 2 ∷ 3 ∷ 4 ∷ [];
+  rows = example_row 1 1 2 5 ∷ example_row 0 1 1 6 ∷ example_row 1 6 2 7 ∷ example_row 0 5 5 8 ∷ [];
+}
 
 -- verdict fail
 -- pairs 5
@@ -78,13 +82,13 @@ worked_example = refl
 
 -- The bytes of that answer, the trace and the model behind it, and two bytes more.
 abbrev pub example_bytes : List ℕ
-example_bytes = 68 ∷ 128 ∷ 84 ∷ 8 ∷ 70 ∷ 0 ∷ 86 ∷ 200 ∷ 68 ∷ 128 ∷ 192 ∷ 208 ∷ 0 ∷ 9 ∷ 0 ∷ 4 ∷ 0 ∷ 1 ∷ 0 ∷ 2 ∷ 0 ∷ 3 ∷ 0 ∷ 4 ∷ 64 ∷ 8 ∷ 2 ∷ 0 ∷ 160 ∷ 0 ∷ 8 ∷ 0 ∷
-    0 ∷ 192 ∷ 64 ∷ 48 ∷ 2 ∷ 0 ∷ 224 ∷ 0 ∷ 40 ∷ 0 ∷ 1 ∷ 0 ∷ 255 ∷ 255 ∷ []
+example_bytes = 68 ∷ 128 ∷ 84 ∷ 8 ∷ 70 ∷ 0 ∷ 86 ∷ 200 ∷ 68 ∷ 128 ∷ 192 ∷ 208 ∷ 0 ∷ 9 ∷ 0 ∷ 4 ∷ 0 ∷ 1 ∷ 0 ∷ 2 ∷ 0 ∷ 3 ∷ 0 ∷ 4 ∷ 64 ∷ 8 ∷ 2 ∷ 0 ∷ 160 ∷ 0 ∷ 8 ∷
+    0 ∷ 0 ∷ 192 ∷ 64 ∷ 48 ∷ 2 ∷ 0 ∷ 224 ∷ 0 ∷ 40 ∷ 0 ∷ 1 ∷ 0 ∷ 255 ∷ 255 ∷ []
 
 -- They are read as those letters and tables.
 pub shown_example : printed_of example_header (Fail 5 5) example_bytes ≡ Printed.fail 5 example_letters example_tables
-unfolding printed_of letters_in letter_or_copy letter_at coding.decode_letter coding.named_letter coding.letter_by coding.fits_test coding.apply_test coding.header_test
-    words.header_word words.letter_word read_tables units_in row_from second_meant
+unfolding printed_of letters_in letter_or_copy letter_at coding.decode_letter coding.named_letter coding.letter_by coding.fits_test coding.apply_test
+    coding.header_test words.header_word words.letter_word read_tables units_in row_from second_meant
 shown_example = refl
 
 -- refused 9 at 17

@@ -9,7 +9,7 @@ ghost use Rattle.text.specs.Templates.{part, filled_in};
 
 use tokens::BYTE_VALUES;
 
-/// The fields of a template.
+/// The fields of a template. They are held in an array of so many numbers: memory is fixed.
 pub const FIELDS: usize = 4;
 
 /// A lent buffer, and the place where the next byte goes. Past the buffer's end nothing is stored; the place moves all the same, so that one writer
@@ -51,6 +51,7 @@ impl<'a> Writer<'a> {
         ensures appended { Appended self.old.out.now self.old.at (name_text name) self.new.out.now self.new.at }
     {
         let mut rest = name;
+        // no `for`: how many bytes are left is in the number
         while rest != 0 {
             self.put_byte((rest % BYTE_VALUES) as u8);
             rest /= BYTE_VALUES;

@@ -55,8 +55,8 @@ truth_key = key truth_word
 
 abbrev pub keyword : ℕ → Bool
 keyword k =
-    eqb k vars_key || eqb k funs_key || eqb k tests_key || eqb k skip_key || eqb k assume_key || eqb k assert_key || eqb k if_key || eqb k else_key || eqb k while_key
-    || eqb k result_key || eqb k truth_key
+    eqb k vars_key || eqb k funs_key || eqb k tests_key || eqb k skip_key || eqb k assume_key || eqb k assert_key || eqb k if_key || eqb k else_key
+    || eqb k while_key || eqb k result_key || eqb k truth_key
 
 -- "Tokens: names, `1`, `2`, `:=`, `=`, `!=`, `!`, `;`, `,`, `(`, `)`, `{`, `}`, `/`." (SPEC 8.2; document 02, request 4: "`!` becomes a token")
 abbrev pub one_key : ℕ

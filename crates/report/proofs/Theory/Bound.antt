@@ -163,7 +163,8 @@ unfolding line
 refused_few w number place h l = simp length-append (omega (arith, w, long_number number h, long_number place l))
 
 -- ── the bound ──
-module _ (registers functions : List ℕ) (reg : (r : ℕ) → get_or registers r 0 < 2 ^ 64) (fun : (f : ℕ) → get_or functions f 0 < 2 ^ 64) (h : Header) (s : List ℕ)
+module _ (registers functions : List ℕ) (reg : (r : ℕ) → get_or registers r 0 < 2 ^ 64) (fun : (f : ℕ) → get_or functions f 0 < 2 ^ 64)
+    (h : Header) (s : List ℕ)
     (b : (i : ℕ) → get_or s i 0 < 256) where
   pub report_length : (v : ReportedVerdict) → Limited v → length (report_of registers functions h v s) ≤ bound h v s
   unfolding report_of

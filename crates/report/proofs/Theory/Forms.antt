@@ -63,7 +63,8 @@ module _ {registers functions : List ℕ} (h : Header) {x f y z a b c d : ℕ} (
 -- "row 0 5 6 7", of a row that is packed in a number
 pub row_form : (functions : List ℕ) (h : Header) (n : ℕ) {a b : ℕ} → a ≡ get_or functions (n / 274877906944 % 4) 0
     → b ≡ second_written h (n / 274877906944 % 4) (n / 65536 % 2048)
-    → row_line (λ f. name_text (get_or functions f 0)) h (row_from first_edition h n) ≡ filled_in (114 ∷ 111 ∷ 119 ∷ 32 ∷ 48 ∷ 32 ∷ 53 ∷ 32 ∷ 54 ∷ 32 ∷ 55 ∷ 10 ∷ [])
+    → row_line (λ f. name_text (get_or functions f 0)) h (row_from first_edition h n)
+    ≡ filled_in (114 ∷ 111 ∷ 119 ∷ 32 ∷ 48 ∷ 32 ∷ 53 ∷ 32 ∷ 54 ∷ 32 ∷ 55 ∷ 10 ∷ [])
     (a ∷ n / 134217728 % 2048 ∷ b ∷ n / 32 % 2048 ∷ [])
 unfolding row_line row_from line filled_in part
 row_form functions h n p q = rw (p, q, second_read h (n / 274877906944 % 4) (n / 134217728 % 2048) (n / 65536 % 2048))
@@ -100,12 +101,14 @@ unfolding line filled_in part
 pairs_form n = refl
 
 -- "letters 4"
-pub letters_form : {a n : ℕ} → a ≡ n → line (letters_word ∷ numeral n ∷ []) ≡ filled_in (108 ∷ 101 ∷ 116 ∷ 116 ∷ 101 ∷ 114 ∷ 115 ∷ 32 ∷ 52 ∷ 10 ∷ []) (a ∷ 0 ∷ 0 ∷ 0 ∷ [])
+pub letters_form : {a n : ℕ} → a ≡ n → line (letters_word ∷ numeral n ∷ [])
+    ≡ filled_in (108 ∷ 101 ∷ 116 ∷ 116 ∷ 101 ∷ 114 ∷ 115 ∷ 32 ∷ 52 ∷ 10 ∷ []) (a ∷ 0 ∷ 0 ∷ 0 ∷ [])
 unfolding line filled_in part
 letters_form e = rw e
 
 -- "values 4"
-pub values_form : {n v : ℕ} → n ≡ v → line (values_word ∷ numeral v ∷ []) ≡ filled_in (118 ∷ 97 ∷ 108 ∷ 117 ∷ 101 ∷ 115 ∷ 32 ∷ 52 ∷ 10 ∷ []) (n ∷ 0 ∷ 0 ∷ 0 ∷ [])
+pub values_form : {n v : ℕ} → n ≡ v → line (values_word ∷ numeral v ∷ [])
+    ≡ filled_in (118 ∷ 97 ∷ 108 ∷ 117 ∷ 101 ∷ 115 ∷ 32 ∷ 52 ∷ 10 ∷ []) (n ∷ 0 ∷ 0 ∷ 0 ∷ [])
 unfolding line filled_in part
 values_form e = rw e
 

@@ -92,7 +92,8 @@ module _ (h : Header) (ls : List Letter) (v : HeaderFits first_edition h) (f : A
   unfolding letter_or_copy
   letter_is i l =
       ap (λ (a : Answer Letter). on_answer a (λ x. x) (λ _ _. Copy 0 0))
-      (ap (letter_at first_edition h (packing first_edition h ls ++ rest)) (from_zero i) ∙ letter_front (packing first_edition h ls) i (omega (arith, packed_size))
+      (ap (letter_at first_edition h (packing first_edition h ls ++ rest)) (from_zero i)
+      ∙ letter_front (packing first_edition h ls) i (omega (arith, packed_size))
       ∙ letter-at first_edition first_roomy (packing first_edition h ls) h ls i (Copy 0 0) (reading_packing first_edition first_roomy h ls v f) l)
     where
       from_zero : (i : ℕ) → 0 + i ≡ i
@@ -149,7 +150,8 @@ module _ (h : Header) (t : Tables) (p : Packable first_edition h t) (rest : List
 
       rows : units_in 5 (get_or (units_in 2 (2 + h.registers) (pack_tables first_edition h t)) 1 0)
           (drop (2 * (2 + h.registers)) (pack_tables first_edition h t) ++ rest)
-          ≡ units_in 5 (get_or (units_in 2 (2 + h.registers) (pack_tables first_edition h t)) 1 0) (drop (2 * (2 + h.registers)) (pack_tables first_edition h t))
+          ≡ units_in 5 (get_or (units_in 2 (2 + h.registers) (pack_tables first_edition h t)) 1 0)
+          (drop (2 * (2 + h.registers)) (pack_tables first_edition h t))
       rows = units_front 5 (get_or (units_in 2 (2 + h.registers) (pack_tables first_edition h t)) 1 0)
           (drop (2 * (2 + h.registers)) (pack_tables first_edition h t)) rest
           (omega (arith, size, rows_count, length-drop (2 * (2 + h.registers)) (pack_tables first_edition h t)))

@@ -87,7 +87,8 @@ module _ (F : Letter → List ℕ) (h : Header) (s : List ℕ) (n : ℕ) where
   pub letter_lines_start : lines_of F (letters_in h s 0 n) ≡ lines_of F (letters_in h s 0 (n - 0))
   letter_lines_start = ap (λ (m : ℕ). lines_of F (letters_in h s 0 m)) (sym (sub-zero n))
 
-  pub letter_lines_next : (k : ℕ) → k < n → lines_of F (letters_in h s k (n - k)) ≡ F (letter_or_copy h s k) ++ lines_of F (letters_in h s (k + 1) (n - (k + 1)))
+  pub letter_lines_next : (k : ℕ) → k < n → lines_of F (letters_in h s k (n - k)) ≡ F (letter_or_copy h s k)
+      ++ lines_of F (letters_in h s (k + 1) (n - (k + 1)))
   unfolding lines_of
   letter_lines_next k l = ap (lines_of F) (letters_next h s n k l)
 
@@ -100,7 +101,8 @@ module _ (R : ℕ → List ℕ) (s : List ℕ) (o n : ℕ) where
   start_lines_start = ap₂ (λ (m j : ℕ). start_lines R 0 (units_in 2 m (drop j s))) (sym (sub-zero n)) (sym (add-zero o))
 
   pub start_lines_next : (i : ℕ) → i < n → start_lines R i (units_in 2 (n - i) (drop (o + 2 * i) s))
-      ≡ line (start_word ∷ R i ∷ blank_word ∷ numeral (word_at s (o + 2 * i)) ∷ []) ++ start_lines R (i + 1) (units_in 2 (n - (i + 1)) (drop (o + 2 * (i + 1)) s))
+      ≡ line (start_word ∷ R i ∷ blank_word ∷ numeral (word_at s (o + 2 * i)) ∷ [])
+      ++ start_lines R (i + 1) (units_in 2 (n - (i + 1)) (drop (o + 2 * (i + 1)) s))
   unfolding start_lines
   start_lines_next i l = ap (start_lines R i) (units_next 2 n i o s l)
 

@@ -103,7 +103,8 @@ key_turn s start end at v b h l m e k =
     record {
       low = omega arith;
       high = omega arith;
-      keyed = let f = ap little_endian (slice-cons (at - 1) end s 0 (omega arith) h ∙ ap (λ n. get_or s (at - 1) 0 ∷ slice n end s) j) in omega (arith, k.keyed);
+      keyed = let f = ap little_endian (slice-cons (at - 1) end s 0 (omega arith) h ∙ ap (λ n. get_or s (at - 1) 0 ∷ slice n end s) j) in
+          omega (arith, k.keyed);
       less = rw d (omega arith);
     }
 

@@ -12,7 +12,8 @@ loop-at-preserved c = elim c.if-comment.branch [
   | then-comment w ↦ let h = gap_turn_in _ _ _ _ c.loop-at-test.true w.if-comment.true c.loop-at.invariant in rw w.comment-is h
   | else-comment+then-b-eq35 w ↦ let h = gap_turn_hash _ _ _ _ c.loop-at-test.true w.if-comment.false w.if-b-eq35.true c.loop-at.invariant in rw w.comment-is h
   | else-comment+else-b-eq35+else-not-is_blank w ↦
-      let h = gap_turn _ _ _ _ _ c.loop-at-test.true w.if-comment.false w.if-b-eq35.false w.is_blank.ensures (search rules) c.loop-at.invariant in rw w.comment-is h
+      let h = gap_turn _ _ _ _ _ c.loop-at-test.true w.if-comment.false w.if-b-eq35.false w.is_blank.ensures (search rules) c.loop-at.invariant in
+      rw w.comment-is h
 ]
 
 pub returns : goal.returns
