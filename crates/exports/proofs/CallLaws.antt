@@ -36,8 +36,8 @@ use Rattle.streaming.specs.Stream.{pushed_all, finished_of}
 use Rattle.streaming.specs.Meanings.{Monitors, Starts, Advances, Streams, StreamStarts, StreamPushes, StreamFinishes}
 use Rattle.streaming.proofs.Theory.Meanings.{finishes}
 use Rattle.streaming.specs.declared.Monitor.{Monitor}
-use Rattle.streaming.specs.declared.StepOutcome.TheVariants as outcome
-use Rattle.streaming.specs.declared.Stepped.{Stepped}
+use Rattle.streaming.specs.Outcome as outcome
+use Rattle.streaming.specs.Outcome.{Stepped}
 use Rattle.streaming.specs.declared.Stream.{Stream}
 use Rattle.streaming.specs.declared.RunAnswer.{RunAnswer}
 use Rattle.records.specs.Records.{flag}

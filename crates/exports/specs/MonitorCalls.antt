@@ -26,8 +26,8 @@ use Rattle.streaming.specs.Demand2.{Demand2}
 use Rattle.streaming.specs.Run.{capped_answer}
 use Rattle.streaming.specs.Meanings.{Monitors, Streams}
 use Rattle.streaming.specs.declared.Monitor.{Monitor}
-use Rattle.streaming.specs.declared.StepOutcome.{StepOutcome}
-use Rattle.streaming.specs.declared.Stepped.{Stepped}
+use Rattle.streaming.specs.Outcome.{StepOutcome}
+use Rattle.streaming.specs.Outcome.{Stepped}
 use Rattle.states.specs.States.{monitor_size, stream_size, monitor_then, monitor_in, stream_then, stream_in}
 use Rattle.exports.specs.Numbers.{run_count, run_numbers}
 

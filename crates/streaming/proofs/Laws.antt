@@ -1,5 +1,4 @@
 -- What the functions return, from what their calls ensure.
-use Rattle.std.specs.Prelude.{Option, Some, None}
 use mathlib.Core.Path.{◌≡◌, sym, ap, ◌∙◌, subst}
 use Prim.Native.Nat.{ℕ, suc, ◌+◌, ◌-◌, ◌*◌, ◌/◌, ◌≤◌, ◌<◌}
 use native.Mathlib.Omega.{arith}
@@ -9,7 +8,7 @@ use lib.ListN.{length, get_or, drop, drop_of_length-le}
 use lib.Seq.{drop-cons}
 use Rattle.letters.specs.declared.Header.{Header}
 use Rattle.letters.specs.declared.Letter.{Letter}
-use Rattle.letters.specs.CodeAnswers.{header_answer, letter_answer}
+use Rattle.letters.specs.Answers.{Answer, value, refusal, on_answer}
 use Rattle.letters.specs.Editions.{first_edition}
 use Rattle.letters.specs.Coding.{decode_header, decode_letter}
 use Rattle.letters.proofs.Theory.WordLaws.{first_roomy, decode-letter}
@@ -18,8 +17,8 @@ use Rattle.window.specs.Perform.{WithinPacking, fresh_of}
 use Rattle.window.proofs.Theory.Step.{fits_within}
 use Rattle.window.specs.declared.Window.{Window}
 use Rattle.streaming.specs.declared.Monitor.{Monitor}
-use Rattle.streaming.specs.declared.StepOutcome.TheVariants as outcome
-use Rattle.streaming.specs.declared.Stepped.{Stepped}
+use Rattle.streaming.specs.Outcome as outcome
+use Rattle.streaming.specs.Outcome.{Stepped}
 use Rattle.streaming.specs.declared.Run.{Run}
 use Rattle.streaming.specs.declared.RunAnswer.{RunAnswer}
 use Rattle.streaming.specs.declared.RunAnswer.TheVariants.{Judged, Refused}
@@ -32,30 +31,41 @@ use Rattle.streaming.specs.Demand2.{Demand2}
 use Rattle.streaming.proofs.Theory.StreamRight.{demand_met}
 use Rattle.streaming.specs.Stream.{judged_bytes, stream_with, pushed_in, pushed_of, finished_in, finished_of, pushed_all}
 
-module _ (word : ℕ) (d : Option Header) (e : header_answer d ≡ decode_header first_edition word) where
-  pub start_refused : (m : Monitor) → d ≡ None → m ≡ idle_of → stepped (outcome.Refused header_malformed) m ≡ start_of word
+module _ (word : ℕ) where
+  pub start_none : refusal header_malformed 0 ≡ decode_header first_edition word → stepped (outcome.Refused header_malformed) idle_of ≡ start_of word
   unfolding start_of
-  start_refused m g i = rw (← e, g, i)
+  start_none e = rw (← e)
 
-  pub start_taken : (h : Header) (w : Window) → d ≡ Some h → w ≡ fresh_of h.registers
+  pub start_some : (h : Header) (w : Window) → value h ≡ decode_header first_edition word → w ≡ fresh_of h.registers
       → stepped outcome.Taken (record { header = h; window = w; running = true }) ≡ start_of word
   unfolding start_of
-  start_taken h w g f = rw (← e, g, f)
+  start_some h w e f = rw (← e, f)
 
-module _ (m : Monitor) (word : ℕ) (d : Option Letter) (e : letter_answer d ≡ decode_letter first_edition m.header word) where
-  pub step_refused : d ≡ None → stepped (outcome.Refused letter_malformed) m ≡ advance m word
+module _ (m : Monitor) (word : ℕ) where
+  pub step_none : refusal letter_malformed 0 ≡ decode_letter first_edition m.header word → stepped (outcome.Refused letter_malformed) m ≡ advance m word
   unfolding advance
-  step_refused g = rw (← e, g)
+  step_none e = rw (← e)
 
-  pub step_taken : (a : Letter) (next : Monitor) → d ≡ Some a → next ≡ moved_of m a → stepped outcome.Taken next ≡ advance m word
+  pub step_some : (a : Letter) (next : Monitor) → value a ≡ decode_letter first_edition m.header word → next ≡ moved_of m a
+      → stepped outcome.Taken next ≡ advance m word
   unfolding advance
-  step_taken a next g f = rw (← e, g, f)
+  step_some a next e f = rw (← e, f)
 
-  -- a letter that was decoded is within the packing
-  pub step_within : (a : Letter) → d ≡ Some a → WithinPacking a
-  step_within a g =
-      let (h, f, _) = (decode-letter first_roomy m.header word a).0 (sym e ∙ ap letter_answer g) in
-      fits_within m.header a h.registers h.functions f
+  -- a refused step leaves the monitor as it was
+  pub refused_stays : (next : Monitor) (number : ℕ) → stepped (outcome.Refused number) next ≡ advance m word → next ≡ m
+  unfolding advance
+  refused_stays next number e = by (decode_letter first_edition m.header word) e
+    where
+      by : (d : Answer Letter) → stepped (outcome.Refused number) next ≡ on_answer d (λ a. stepped outcome.Taken (moved_of m a)) (λ n _. stepped (outcome.Refused n) m)
+          → next ≡ m
+      by (value a) q = let o : outcome.Refused number ≡ outcome.Taken = ap (λ (s : Stepped). s.outcome) q in cc
+      by (refusal n place) q = ap (λ (s : Stepped). s.monitor) q
+
+-- a letter that was decoded is within the packing
+pub step_within : (h : Header) (word : ℕ) (a : Letter) → value a ≡ decode_letter first_edition h word → WithinPacking a
+step_within h word a e =
+    let (v, f, _) = (decode-letter first_roomy h word a).0 (sym e) in
+    fits_within h a v.registers v.functions f
 
 module _ (word : ℕ) (s : Stepped) (e : s ≡ start_of word) where
   pub begun_taken : s.outcome ≡ outcome.Taken → run_with s.monitor 0 (Judged 0 0) ≡ begun_run word

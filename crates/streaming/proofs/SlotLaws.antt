@@ -1,13 +1,13 @@
 -- The run on slots is the run on the window that they stand for.
-use Rattle.std.specs.Prelude.{Option, Some, None}
+use Rattle.std.specs.Simd.{first_chunks}
 use mathlib.Core.Path.{◌≡◌, refl, sym, ap, subst, ◌∙◌}
 use mathlib.Core.Bool.{Bool, true, false, not, ◌&&◌}
 use mathlib.Core.List.{List}
-use Prim.Native.Nat.{ℕ, ◌+◌, ◌*◌, ◌-◌, ◌≤◌, ◌<◌}
+use Prim.Native.Nat.{ℕ, ◌+◌, ◌*◌, ◌/◌, ◌≤◌, ◌<◌}
 use lib.ListN.{length, get_or, drop}
 use Rattle.letters.specs.declared.Header.{Header}
 use Rattle.letters.specs.declared.Letter.{Letter}
-use Rattle.letters.specs.CodeAnswers.{letter_answer}
+use Rattle.letters.specs.Answers.{value, refusal}
 use Rattle.letters.specs.Editions.{first_edition}
 use Rattle.letters.specs.Coding.{decode_letter}
 use Rattle.letters.proofs.Theory.WordLaws.{first_roomy, decode-letter}
@@ -30,10 +30,9 @@ Stands h = RepresentsWindowInFirstEdition h.registers
 
 -- ---- a letter
 
-letter_among : (h : Header) (word : ℕ) (d : Option Letter) (a : Letter) → letter_answer d ≡ decode_letter first_edition h word → d ≡ Some a
-    → RegistersBelowCount h.registers a
-letter_among h word d a e g =
-    let (o, f, _) = (decode-letter first_roomy h word a).0 (sym e ∙ ap letter_answer g) in
+letter_among : (h : Header) (word : ℕ) (a : Letter) → value a ≡ decode_letter first_edition h word → RegistersBelowCount h.registers a
+letter_among h word a e =
+    let (o, f, _) = (decode-letter first_roomy h word a).0 (sym e) in
     fits_among h a o.functions f
 
 slots-performed : (h : Header) (s : Slots) (w : Window) → Stands h s w → (fine : Bool) (a : Letter) → RegistersBelowCount h.registers a
@@ -48,8 +47,8 @@ pub standing_start : (h : Header) (w : Window) (s : Slots) (fine : Bool) (n one 
     → Standing h s fine n one two left (taken_all (run_of h w fine n (Judged one two)) left)
 standing_start h w s fine n one two left r = record { window = w; represents = r; taken = refl }
 
-module _ (h : Header) (s : Slots) (fine : Bool) (n one two : ℕ) (bytes : List ℕ) (i : ℕ) (whole : Run)
-    (st : Standing h s fine n one two (drop i bytes) whole) where
+module _ (h : Header) (s : Slots) (fine : Bool) (n one two : ℕ) (bytes : List ℕ) (words : List (List ℕ))
+    (front : words ≡ first_chunks 2 (length bytes / 2) bytes) (i : ℕ) (whole : Run) (st : Standing h s fine n one two (drop (2 * i) bytes) whole) where
   abbrev w : Window
   w = st.window
 
@@ -58,32 +57,32 @@ module _ (h : Header) (s : Slots) (fine : Bool) (n one two : ℕ) (bytes : List 
   due j = fine && j
 
   -- one turn
-  pub standing_more : (number word : ℕ) (d : Option Letter) (a : Letter) (j : Bool) (s' : Slots) (one' two' : ℕ) → 1 < length bytes - i
-      → word ≡ get_or bytes i 0 * 256 + get_or bytes (i + 1) 0 → letter_answer d ≡ decode_letter first_edition h word → number ≡ next_number n
-      → d ≡ Some a → j ≡ judge_slots registers functions s a → s' ≡ slots_performed s (due j) a
+  pub standing_more : (number word : ℕ) (d : List ℕ) (a : Letter) (j : Bool) (s' : Slots) (one' two' : ℕ) → i < length words
+      → word ≡ get_or (get_or words i d) 0 0 * 256 + get_or (get_or words i d) 1 0 → value a ≡ decode_letter first_edition h word → number ≡ next_number n
+      → j ≡ judge_slots registers functions s a → s' ≡ slots_performed s (due j) a
       → one' ≡ first_of one (not (fine && j)) number → two' ≡ first_of two s'.infeasible number
-      → Standing h s' (fine && j) number one' two' (drop (i + 2) bytes) whole
-  standing_more number word d a j s' one' two' l k e c g p q u v =
-      let m = letter_among h word d a e g in
+      → Standing h s' (fine && j) number one' two' (drop (2 * (i + 1)) bytes) whole
+  standing_more number word d a j s' one' two' l k e c p q u v =
+      let m = letter_among h word a e in
       let after : Stands h s' (performed_of w (due j) a) =
       subst (λ t. Stands h t (performed_of w (due j) a)) (sym q) (slots-performed h s w st.represents (due j) a m) in
       record {
         window = performed_of w (due j) a;
         represents = after;
-        taken = taken_more h w fine n one two bytes i whole st.taken number word d a j (performed_of w (due j) a) one' two' l k e c g
+        taken = taken_more h w fine n one two bytes words front i whole st.taken number word d a j (performed_of w (due j) a) one' two' l k e c
             (p ∙ judged h.registers s w st.represents a m) refl u (v ∙ ap (λ b. first_of two b number) (sym after.mirrors.infeasible));
       }
 
   -- the end at a word that is no letter
-  pub standing_malformed : (last : Window) (number word : ℕ) (d : Option Letter) → last ≡ window_of registers functions s → 1 < length bytes - i
-      → word ≡ get_or bytes i 0 * 256 + get_or bytes (i + 1) 0 → letter_answer d ≡ decode_letter first_edition h word → number ≡ next_number n
-      → d ≡ None → run_of h last fine n (Refused letter_malformed number) ≡ whole
-  standing_malformed last number word d b l k e c g =
+  pub standing_malformed : (last : Window) (number word : ℕ) (d : List ℕ) → last ≡ window_of registers functions s → i < length words
+      → word ≡ get_or (get_or words i d) 0 0 * 256 + get_or (get_or words i d) 1 0 → refusal letter_malformed 0 ≡ decode_letter first_edition h word
+      → number ≡ next_number n → run_of h last fine n (Refused letter_malformed number) ≡ whole
+  standing_malformed last number word d b l k e c =
       ap (λ v. run_of h v fine n (Refused letter_malformed number)) (b ∙ read_back h.registers s w st.represents)
-      ∙ taken_malformed h w fine n one two bytes i whole st.taken number word d l k e c g
+      ∙ taken_malformed h w fine n one two bytes words front i whole st.taken number word d l k e c
 
   -- the end of the loop
-  pub standing_done : (last : Window) → last ≡ window_of registers functions s → length bytes - i ≤ 1 → run_of h last fine n (Judged one two) ≡ whole
+  pub standing_done : (last : Window) → last ≡ window_of registers functions s → length words ≤ i → run_of h last fine n (Judged one two) ≡ whole
   standing_done last b l =
       ap (λ v. run_of h v fine n (Judged one two)) (b ∙ read_back h.registers s w st.represents)
-      ∙ taken_done h w fine n one two bytes i whole st.taken l
+      ∙ taken_done h w fine n one two bytes words front i whole st.taken l

@@ -6,3 +6,4 @@ pub mod SlotRun
 pub mod Demand2
 pub mod Meanings
 pub mod Following
+pub mod Outcome

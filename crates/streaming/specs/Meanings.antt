@@ -22,9 +22,9 @@ use Rattle.streaming.specs.Stream.{empty_stream, finished_of, pushed_all}
 use Rattle.streaming.specs.Demand2.{Demand2}
 use Rattle.streaming.specs.Run.{capped_answer}
 use Rattle.streaming.specs.declared.Monitor.{Monitor}
-use Rattle.streaming.specs.declared.StepOutcome.TheVariants as outcome
+use Rattle.streaming.specs.Outcome as outcome
 use Rattle.streaming.specs.declared.Run.{Run}
-use Rattle.streaming.specs.declared.Stepped.{Stepped}
+use Rattle.streaming.specs.Outcome.{Stepped}
 use Rattle.streaming.specs.declared.Stream.{Stream}
 use Rattle.streaming.specs.declared.RunAnswer.{RunAnswer}
 use Rattle.streaming.specs.declared.RunAnswer.TheVariants.{Refused}

@@ -1,5 +1,7 @@
 -- The monitor: its start, and its step at a letter's word, for every monitor value. What the code computes (SPEC 6.1, 6.2).
-use Rattle.std.specs.Prelude.{ℕ, true, false}
+use Rattle.std.specs.Prelude.{ℕ, true, false, Result, Ok, Err}
+use Rattle.letters.specs.declared.reasons.Reason.{Reason}
+use Rattle.letters.specs.Reasons.{number_of}
 use Rattle.base.specs.Choice.{pick}
 use Rattle.letters.specs.declared.Header.{Header}
 use Rattle.letters.specs.declared.Letter.{Letter}
@@ -8,9 +10,9 @@ use Rattle.letters.specs.Editions.{first_edition}
 use Rattle.letters.specs.Coding.{decode_header, decode_letter}
 use Rattle.window.specs.Perform.{fresh_of, judge_of, perform_of}
 use Rattle.streaming.specs.declared.Monitor.{Monitor}
-use Rattle.streaming.specs.declared.StepOutcome.{StepOutcome}
-use Rattle.streaming.specs.declared.StepOutcome.TheVariants as outcome
-use Rattle.streaming.specs.declared.Stepped.{Stepped}
+use Rattle.streaming.specs.Outcome.{StepOutcome}
+use Rattle.streaming.specs.Outcome as outcome
+use Rattle.streaming.specs.Outcome.{Stepped}
 
 -- "The monitor takes a letter a call and counts none: it refuses a header by 3 or a letter by 4, place 0." (SPEC 6.1, 6.2)
 abbrev pub outcome_answer : StepOutcome → Answer (Unit {0})
@@ -49,3 +51,15 @@ unfoldable pub advance : Monitor → ℕ → Stepped
 advance m word =
     on_answer (decode_letter first_edition m.header word) (λ a. stepped outcome.Taken (moved_of m a))
     λ number _. stepped (outcome.Refused number) m
+
+-- ---- what the code returns
+
+-- what a start returns; a refused start leaves no monitor, and the idle one stands for it
+abbrev pub started : Result Monitor Reason → Stepped
+started (Ok m) = stepped outcome.Taken m
+started (Err r) = stepped (outcome.Refused (number_of r)) idle_of
+
+-- what a step returns, and the monitor after it
+abbrev pub after : Result (Unit {0}) Reason → Monitor → Stepped
+after (Ok u) m = stepped outcome.Taken m
+after (Err r) m = stepped (outcome.Refused (number_of r)) m

@@ -1,5 +1,5 @@
 // The letters of many bytes, taken on a window whose classes lie in slots.
-ghost use Rattle.std.specs.Prelude.{◌≡◌, ◌≤◌, length, drop};
+ghost use Rattle.std.specs.Prelude.{◌≡◌};
 ghost use Rattle.window.specs.Layout.{registers, functions};
 ghost use Rattle.window.specs.Perform.{WithinPacking};
 ghost use Rattle.window.specs.declared.Window.{Window};
@@ -9,15 +9,29 @@ ghost use Rattle.streaming.specs.Run.{run_of};
 ghost use Rattle.streaming.specs.SlotRun.{slots_performed};
 ghost use Rattle.streaming.specs.Stream.{taken_all};
 
-use super::by_tables::{run_of, take_tables};
 use super::numbering::{first, next_number};
-use super::{Run, RunAnswer};
+use super::{Monitor, Run, RunAnswer};
 use letters::limits::UNIT_BYTES;
 use letters::refusal_numbers::LETTER_MALFORMED;
 use letters::words::{decode_letter, word};
 use letters::{Header, Letter};
 use slots::SlotWindow;
 use window::Window;
+
+// A run from its parts.
+fn run_of(header: Header, window: Window, running: bool, letters: u64, verdict: RunAnswer) -> Run
+    ensures { result ≡ run_of header window running letters verdict }
+{
+    Run {
+        monitor: Monitor {
+            header,
+            window,
+            running,
+        },
+        letters,
+        verdict,
+    }
+}
 
 // Performs a letter only if it is fine.
 fn perform_if(slots: &mut SlotWindow, fine: bool, letter: Letter)
@@ -29,7 +43,7 @@ fn perform_if(slots: &mut SlotWindow, fine: bool, letter: Letter)
     }
 }
 
-// The letters from `start` on, from a run with a window that these slots stand for.
+// The letters of these bytes, from a run with a window that these slots stand for.
 fn take_from(
     header: Header,
     mut slots: SlotWindow,
@@ -38,17 +52,14 @@ fn take_from(
     mut one: u64,
     mut two: u64,
     bytes: &[u8],
-    start: usize,
 ) -> Run
-    requires { start ≤ length bytes.now }
     ensures { (window : Window) → RepresentsWindow registers functions header.registers slots window
-        → result ≡ taken_all (run_of header window fine count (Judged one two)) (drop start bytes.now) }
+        → result ≡ taken_all (run_of header window fine count (Judged one two)) bytes.now }
 {
-    let mut i = start;
-    while bytes.len() - i > 1 {
-        let decoded = decode_letter(header, word(bytes[i], bytes[i + 1]));
+    let (words, _) = bytes.as_chunks::<UNIT_BYTES>();
+    for &[high, low] in words {
         let number = next_number(count);
-        let Some(letter) = decoded else {
+        let Some(letter) = decode_letter(header, word(high, low)) else {
             return run_of(
                 header,
                 slots.window(),
@@ -62,7 +73,6 @@ fn take_from(
         count = number;
         one = first(one, !fine, number);
         two = first(two, slots.infeasible(), number);
-        i = i + UNIT_BYTES;
     }
     run_of(
         header,
@@ -73,28 +83,25 @@ fn take_from(
     )
 }
 
-/// Takes the letters whose words are the bytes from `start` on, from a run of these parts; a last byte without its other half is left alone.
-/// A window that the slots made of it do not stand for is taken on its tables.
-pub fn take_slots(
-    header: Header,
-    window: Window,
-    running: bool,
-    letters: u64,
-    incoherent: u64,
-    infeasible: u64,
-    bytes: &[u8],
-    start: usize,
-) -> Run
-    requires { start ≤ length bytes.now }
-    ensures { result ≡ taken_all (run_of header window running letters (Judged incoherent infeasible)) (drop start bytes.now) }
-{
-    let slots = SlotWindow::of_window(&window);
-    if slots.represents(&window, header.registers as usize) {
-        return take_from(
-            header, slots, running, letters, incoherent, infeasible, bytes, start,
-        );
+impl Run {
+    /// Takes the letters whose words these bytes are; a last byte without its other half is left alone.
+    /// A window that the slots made of it do not stand for is taken on its tables.
+    pub fn take_on_slots(&mut self, bytes: &[u8])
+        ensures { self.new ≡ taken_all self.old bytes.now }
+    {
+        let RunAnswer::Judged(one, two) = self.verdict else {
+            return;
+        };
+        let Monitor {
+            header,
+            window,
+            running,
+        } = self.monitor;
+        let slots = SlotWindow::of_window(&window);
+        if slots.represents(&window, usize::from(header.registers)) {
+            *self = take_from(header, slots, running, self.letters, one, two, bytes);
+        } else {
+            self.take_each(bytes);
+        }
     }
-    take_tables(
-        header, window, running, letters, incoherent, infeasible, bytes, start,
-    )
 }

@@ -10,9 +10,8 @@ pub mod starting;
 pub mod stepping;
 /// The run over a trace's words, which numbers the letters.
 pub mod numbering;
-// The letters of many bytes, on the tables of a window and on slots.
+// The letters of many bytes, on slots.
 mod by_slots;
-mod by_tables;
 /// The run over a trace's bytes, all at once or one by one.
 pub mod byte_stream;
 
@@ -25,24 +24,6 @@ pub struct Monitor {
     pub window: Window,
     /// Whether all letters taken are coherent.
     pub running: bool,
-}
-
-/// How a call of the monitor ended.
-#[derive(Clone, Copy)]
-pub enum StepOutcome {
-    /// It was taken.
-    Taken,
-    /// It was refused by this number; the place is 0.
-    Refused(u8),
-}
-
-/// What a call of the monitor answers, and the monitor after it.
-#[derive(Clone, Copy)]
-pub struct Stepped {
-    /// How the call ended.
-    pub outcome: StepOutcome,
-    /// The monitor after it.
-    pub monitor: Monitor,
 }
 
 /// What the run over a trace answers.

@@ -25,7 +25,7 @@ use Rattle.report.specs.Lines.{refused_line}
 use Rattle.report.proofs.Theory.Bound.{refused_few}
 use Rattle.streaming.specs.Monitor.{start_of, advance}
 use Rattle.streaming.specs.declared.Monitor.{Monitor}
-use Rattle.streaming.specs.declared.Stepped.{Stepped}
+use Rattle.streaming.specs.Outcome.{Stepped}
 use Rattle.display_lines.specs.Lines.{fresh_word}
 use Rattle.display_lines.specs.Display.{monitor_line, judged_line, lines_after, trace_lines, display_lines}
 use Rattle.display_lines.specs.Prints.{most_trace_bytes, longest_line, most_display_lines, most_display_line_bytes, PrintsDisplayLines}

@@ -37,9 +37,9 @@ use Rattle.streaming.proofs.Theory.Demand2.{demand_unique}
 use Rattle.streaming.proofs.Theory.StreamRight.{exact_of, begun_refused, demand_exact, answer_capped, demand_met, pushed_append, stream_answers}
 use Rattle.streaming.specs.Run.{capped_answer}
 use Rattle.streaming.specs.declared.Monitor.{Monitor}
-use Rattle.streaming.specs.declared.StepOutcome.TheVariants as outcome
+use Rattle.streaming.specs.Outcome as outcome
 use Rattle.streaming.specs.declared.Run.{Run}
-use Rattle.streaming.specs.declared.Stepped.{Stepped}
+use Rattle.streaming.specs.Outcome.{Stepped}
 use Rattle.streaming.specs.declared.Stream.{Stream}
 use Rattle.streaming.specs.declared.RunAnswer.{RunAnswer}
 use Rattle.streaming.specs.Meanings.{Monitors, RefusesAll, Starts, Advances, RunBegins, RunTakes, Streams, StreamStarts, StreamPushes, StreamFinishes}

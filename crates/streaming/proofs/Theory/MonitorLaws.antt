@@ -12,7 +12,7 @@ use Rattle.window.specs.Perform.{judge_of, perform_of}
 use Rattle.window.specs.declared.Window.{Window}
 use Rattle.streaming.specs.Monitor.{stepped, idle_of, fresh_monitor, start_of, moved_of, advance}
 use Rattle.streaming.specs.declared.Monitor.{Monitor}
-use Rattle.streaming.specs.declared.StepOutcome.TheVariants as outcome
+use Rattle.streaming.specs.Outcome as outcome
 
 pub start_taken : (word : ℕ) (h : Header) → decode_header first_edition word ≡ value h → start_of word ≡ stepped outcome.Taken (fresh_monitor h)
 unfolding start_of
