@@ -19,8 +19,6 @@ use letters::limits::UNIT_BYTES;
 use letters::words::word;
 use std::io::Read;
 use streaming::Monitor;
-use streaming::starting::start;
-use streaming::stepping::step;
 use text::{FIELDS, put_line};
 use tokens::BYTE_VALUES;
 use traces::read_trace;
@@ -144,11 +142,10 @@ fn put_judged_lines(out: &mut [u8], at: usize, monitor: Monitor, bytes: &[u8]) -
     let mut letters: u64 = 0;
     let mut i: usize = UNIT_BYTES;
     while 1 < bytes.len() - i {
-        let stepped = step(m, word(bytes[i], bytes[i + 1]));
-        let after = stepped.monitor;
+        // A letter that is refused leaves the monitor as it is.
+        let _ = m.step(word(bytes[i], bytes[i + 1]));
         let number = letters + 1;
-        next = put_judged_line(out, next, number, after);
-        m = after;
+        next = put_judged_line(out, next, number, m);
         letters = number;
         i = i + UNIT_BYTES;
     }
@@ -161,8 +158,7 @@ fn put_trace_lines(out: &mut [u8], bytes: &[u8]) -> usize
     ensures appended { Appended out.old 0 (trace_lines bytes.now) out.new result }
     ensures few { result ≤ most_display_line_bytes }
 {
-    let started = start(word(bytes[0], bytes[1]));
-    let monitor = started.monitor;
+    let monitor = Monitor::start(word(bytes[0], bytes[1])).unwrap_or(Monitor::idle());
     let next = put_fresh_line(out, monitor);
     put_judged_lines(out, next, monitor, bytes)
 }

@@ -3,13 +3,16 @@
 ghost use Rattle.std.specs.Prelude.{◌≡◌, ◌≤◌, length};
 ghost use Rattle.states.specs.States.{monitor_size};
 ghost use Rattle.exports.specs.MonitorCalls.{holds_state, outcome_number, stepped_numbers, KeepsStep, StartsMonitor, StepsMonitor};
+ghost use Rattle.streaming.specs.Monitor.{ended, after};
+ghost use Rattle.streaming.specs.Meanings.{Starts};
 ghost use Rattle.exports.specs.MonitorCalls.{AsksUnequal, AsksClasses};
 ghost use Rattle.exports.specs.MonitorCalls.{StartsStream, PushesStream, FinishesStream};
 
 use super::{RUN_NUMBERS, run_numbers, store};
 use records::flagged;
 use states::{MONITOR_SIZE, STREAM_SIZE, monitor_in, put_monitor, put_stream, stream_in};
-use streaming::{StepOutcome, Stepped, byte_stream, starting, stepping};
+use letters::reasons::Reason;
+use streaming::{Monitor, Stream};
 use unequal_flags::unequal_word;
 
 // The first byte of a state: what it is.
@@ -30,46 +33,49 @@ fn holds(kind: u8, size: usize, state: &[u8]) -> bool
     requires { 1 ≤ size }
     ensures { result ≡ holds_state kind size state.now }
 {
-    if state.len() < size {
-        return false;
-    }
-    state[0] == kind
+    size <= state.len() && state[0] == kind
 }
 
-fn outcome_number(outcome: StepOutcome) -> u64
-    ensures { result ≡ outcome_number outcome }
+// The number of a call's refusal, 0 for none.
+fn outcome_number(outcome: Result<(), Reason>) -> u64
+    ensures { result ≡ outcome_number (ended outcome) }
 {
     match outcome {
-        StepOutcome::Taken => 0,
-        StepOutcome::Refused(number) => number as u64,
+        Ok(()) => 0,
+        Err(reason) => u64::from(u8::from(reason)),
     }
 }
 
 // The numbers of what a call of the monitor answers.
-fn stepped_numbers(stepped: Stepped) -> [u64; STEP_NUMBERS]
-    ensures { result ≡ stepped_numbers stepped }
+#[tactic(auto, unfolding(crate::specs::MonitorCalls::stepped_numbers))]
+fn stepped_numbers(outcome: Result<(), Reason>, monitor: &Monitor) -> [u64; STEP_NUMBERS]
+    ensures { result ≡ stepped_numbers (after outcome monitor.now) }
 {
-    let outcome = stepped.outcome;
-    let monitor = stepped.monitor;
-    let window = monitor.window;
     [
         outcome_number(outcome),
         0,
-        flagged(monitor.running) as u64,
-        flagged(window.infeasible) as u64,
+        u64::from(flagged(monitor.running)),
+        u64::from(flagged(monitor.window.infeasible)),
     ]
 }
 
 // Stores the monitor after a call that was not refused.
-fn keep(stepped: Stepped, state: &mut [u8])
+fn keep(outcome: Result<(), Reason>, monitor: Monitor, state: &mut [u8])
     requires { monitor_size ≤ length state.old }
-    ensures { KeepsStep stepped state.old state.new }
+    ensures { KeepsStep (after outcome monitor) state.old state.new }
 {
-    let outcome = stepped.outcome;
-    let monitor = stepped.monitor;
-    match outcome {
-        StepOutcome::Taken => put_monitor(MONITOR, monitor, state),
-        StepOutcome::Refused(number) => {}
+    if outcome.is_ok() {
+        put_monitor(MONITOR, monitor, state);
+    }
+}
+
+// Starts a monitor with the word of a header; the idle one stands for a refused start.
+fn started(header: u16) -> (Result<(), Reason>, Monitor)
+    ensures { Starts header (after result.0 result.1) }
+{
+    match Monitor::start(header) {
+        Ok(monitor) => (Ok(()), monitor),
+        Err(reason) => (Err(reason), Monitor::idle()),
     }
 }
 
@@ -86,10 +92,9 @@ pub extern "C" fn fadzgime_monitor_start(header: u16, state: &mut [u8], answer: 
         store(&none, answer);
         return;
     }
-    let started = starting::start(header);
-    keep(started, state);
-    let numbers = stepped_numbers(started);
-    store(&numbers, answer);
+    let (outcome, monitor) = started(header);
+    keep(outcome, monitor, state);
+    store(&stepped_numbers(outcome, &monitor), answer);
 }
 
 /// Takes the word of a letter: the refusal and its place, 0 for none; 1 if the monitor runs, all letters taken being coherent; 1 if the longest
@@ -102,10 +107,10 @@ pub extern "C" fn fadzgime_monitor_step(letter: u16, state: &mut [u8], answer: &
         return;
     }
     if holds(MONITOR, MONITOR_SIZE, state) {
-        let stepped = stepping::step(monitor_in(state), letter);
-        keep(stepped, state);
-        let numbers = stepped_numbers(stepped);
-        store(&numbers, answer);
+        let mut monitor = monitor_in(state);
+        let outcome = monitor.step(letter);
+        keep(outcome, monitor, state);
+        store(&stepped_numbers(outcome, &monitor), answer);
         return;
     }
     let none = [NO_STATE, 0, 0, 0];
@@ -162,7 +167,7 @@ pub extern "C" fn fadzgime_stream_start(state: &mut [u8], answer: &mut [u64])
         answer[0] = NO_STATE;
         return;
     }
-    put_stream(STREAM, byte_stream::start(), state);
+    put_stream(STREAM, Stream::start(), state);
     answer[0] = 0;
 }
 
@@ -175,8 +180,9 @@ pub extern "C" fn fadzgime_stream_push(bytes: &[u8], state: &mut [u8], answer: &
         return;
     }
     if holds(STREAM, STREAM_SIZE, state) {
-        let next = byte_stream::push_all(stream_in(state), bytes);
-        put_stream(STREAM, next, state);
+        let mut stream = stream_in(state);
+        stream.push_all(bytes);
+        put_stream(STREAM, stream, state);
         answer[0] = 0;
         return;
     }
@@ -192,7 +198,7 @@ pub extern "C" fn fadzgime_stream_finish(state: &[u8], answer: &mut [u64])
         return;
     }
     if holds(STREAM, STREAM_SIZE, state) {
-        let verdict = byte_stream::finish(stream_in(state));
+        let verdict = stream_in(state).finish();
         let numbers = run_numbers(verdict);
         store(&numbers, answer);
         return;

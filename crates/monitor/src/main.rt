@@ -4,7 +4,6 @@
 use files::{Input, Source};
 use std::io::Read;
 use streaming::Stream;
-use streaming::byte_stream::{finish, push_all, start};
 
 // The run so far, whether more input may come, and whether a read has failed.
 #[derive(Clone, Copy)]
@@ -15,20 +14,26 @@ struct Fed {
 }
 
 // Reads as much as the buffer holds, and pushes what came.
-fn feed<R: Read>(source: &mut Source<R>, stream: Stream) -> Fed {
+fn feed<R: Read>(source: &mut Source<R>, mut stream: Stream) -> Fed {
     let mut buffer = io::large_buffer();
     let input = files::read(source, &mut buffer);
     match input {
-        Input::Ended(n) => Fed {
-            more: false,
-            failed: false,
-            stream: push_all(stream, &buffer[..n]),
-        },
-        Input::Full => Fed {
-            more: true,
-            failed: false,
-            stream: push_all(stream, &buffer),
-        },
+        Input::Ended(n) => {
+            stream.push_all(&buffer[..n]);
+            Fed {
+                more: false,
+                failed: false,
+                stream,
+            }
+        }
+        Input::Full => {
+            stream.push_all(&buffer);
+            Fed {
+                more: true,
+                failed: false,
+                stream,
+            }
+        }
         Input::Failed(_) => Fed {
             more: false,
             failed: true,
@@ -42,7 +47,7 @@ fn feed_all<R: Read>(source: &mut Source<R>) -> Fed {
     let mut fed = Fed {
         more: true,
         failed: false,
-        stream: start(),
+        stream: Stream::start(),
     };
     let mut turns = u64::MAX;
     while turns > 0 && fed.more {
@@ -62,7 +67,7 @@ fn main(rt: HostRuntime) {
         return;
     }
     let stream = fed.stream;
-    let verdict = finish(stream);
+    let verdict = stream.finish();
     let mut lines = monitor_lines::line_space();
     let size = monitor_lines::write_lines(verdict, &mut lines);
     files::print(&rt, &lines[..size]);

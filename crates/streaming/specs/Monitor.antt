@@ -59,7 +59,11 @@ abbrev pub started : Result Monitor Reason → Stepped
 started (Ok m) = stepped outcome.Taken m
 started (Err r) = stepped (outcome.Refused (number_of r)) idle_of
 
+-- how a call ended
+abbrev pub ended : Result (Unit {0}) Reason → StepOutcome
+ended (Ok u) = outcome.Taken
+ended (Err r) = outcome.Refused (number_of r)
+
 -- what a step returns, and the monitor after it
 abbrev pub after : Result (Unit {0}) Reason → Monitor → Stepped
-after (Ok u) m = stepped outcome.Taken m
-after (Err r) m = stepped (outcome.Refused (number_of r)) m
+after r m = stepped (ended r) m
