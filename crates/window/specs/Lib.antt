@@ -15,4 +15,3 @@ pub mod Perform
 pub mod Viewing
 pub mod Stepping
 pub mod Step
-pub mod Parts

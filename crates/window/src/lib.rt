@@ -148,6 +148,9 @@ fn grid(one: Mask, two: Mask) -> u64
 }
 
 // ---- tables: lists of masks in lines, one entry for each register
+//
+// What goes along columns and what goes along rows differs in one expression, where line j has its entry. They stay two functions each: a trait of lines
+// would take that expression out, with a definition, its laws and an impl for each, and be no plainer than bodies of one line; `slots` calls both.
 
 /// In each mask, the registers `to` are in it exactly if one of `from` was.
 pub fn move_bits(t: &mut [Mask], from: Mask, to: Mask)

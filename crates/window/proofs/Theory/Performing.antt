@@ -7,18 +7,14 @@ use native.Mathlib.Omega.{arith}
 use native.Mathlib.Numerals.{add-one}
 use lib.Bits.{bit_or}
 use borrow.Author.Tests.{lt-ltb, le-ltb}
-use lib.ListN.{get_or, set}
+use lib.ListN.{get_or}
 use Rattle.base.specs.Masks.{has}
 use Rattle.base.specs.LeastAndSize.{least_in}
 use Rattle.base.proofs.Theory.MaskLaws.{with_same}
 use Rattle.window.specs.Places.{place}
 use Rattle.window.specs.Bits.{nonempty, minus}
-use Rattle.window.specs.Through.{masks_through, results_through}
-use Rattle.window.specs.Adding.{line_added, masks_forgotten, results_forgotten}
-use Rattle.window.specs.Marks.{marked_with}
-use Rattle.window.specs.Counting.{one_fewer, count_left, count_made}
 use Rattle.window.specs.declared.Window.{Window}
-use Rattle.window.specs.Performing.{with_tables, with_unequal, arguments_of, fallen_of, copied_tables, copied_of, merged_of, rest_of, find_of, closed_of, apart_of}
+use Rattle.window.specs.Performing.{with_unequal, copied_of, merged_of, rest_of, find_of, closed_of, apart_of}
 use Rattle.window.specs.Performing.{clash_of, settled_of, equal_of, parted_of, unequal_of, applied_of, apply_of}
 
 pub both_has : (m n a s : ℕ) → s ≡ 2 ^ a → has (bit_or (bit_or m n) s) a ≡ true

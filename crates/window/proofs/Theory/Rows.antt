@@ -8,9 +8,8 @@ use native.Mathlib.Omega.{arith}
 use native.Mathlib.Nat.{add-zero, mul-suc, mul_comm, mul_assoc, add-mul, zero-mul, one-mul, mul-le-mul_left, mod-eq_of_lt, mod-lt}
 use native.Mathlib.Nat.{div-lt_iff_lt-mul, eq-or-lt_of_le, zero-div}
 use lib.Dec.{eqb, T, eqb→eq}
-use lib.Bits.{bit_and, bit_or, and_block, and_mod, and_le_r, and_zero_r, and_self, or_shr, or_mod, or_shifted_r}
-use native.Mathlib.Numerals.{add-one}
-use lib.Pow.{pow_pos, pow-add, shl_exact, shl-shr, shr-shr, split, high, low, field, mod-mod-pow}
+use lib.Bits.{bit_and, bit_or, and_block, and_mod, and_le_r, and_zero_r, and_self, or_shr, or_mod}
+use lib.Pow.{pow_pos, pow-add, shl-shr, shr-shr, split, high, low, field, mod-mod-pow}
 use lib.ListN.{get_or}
 use borrow.Author.Tests.{eqb-true, eqb-false, eq-eqb, ne_eqb}
 use Rattle.base.proofs.Theory.Choice.{by_test}
@@ -18,7 +17,7 @@ use Rattle.base.specs.Masks.{bit, has}
 use Rattle.semantics.proofs.Theory.Booleans.{and_l, and_r}
 use Rattle.window.specs.Bits.{nonempty}
 use Rattle.window.specs.Adding.{part_of}
-use Rattle.window.specs.Layout.{registers, word_bits}
+use Rattle.window.specs.Layout.{registers}
 use Rattle.window.specs.Rows.{SmallRows, joined_rows, flag_row}
 use Rattle.window.specs.Table.{table, table_from}
 use Rattle.window.proofs.Theory.Bits.{true_of, false_of, none_in, nonempty_is, meets}

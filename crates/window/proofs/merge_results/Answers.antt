@@ -1,4 +1,3 @@
-use borrow.Author.Rules.{rules}
 use mathlib.Core.Path.{refl, ap, ap₂, ◌∙◌}
 use lib.Bits.{bit_or}
 use lib.ListN.{length}
@@ -6,27 +5,15 @@ use Rattle.window.specs.Layout.{registers, functions, lines}
 use Rattle.window.specs.Lines.{columns, rows}
 use Rattle.window.proofs.Theory.Lines.{columns_partition, rows_partition, united_length}
 use Rattle.window.proofs.Theory.Through.{columns_span, rows_span, merged_twice, results_merged, whole}
-use Rattle.window.proofs.merge_results.Statement.{statement}
-use Rattle.window.proofs.merge_results.Tie as tie
+use Rattle.window.proofs.merge_results.Goals as goal
 
-pub merge_results_spec : {M : Type 1} → statement M
-merge_results_spec = tie.close (tie.spec
-    (λ c κs. search rules)
-    (λ c κs. search rules)
-    (λ c κs. search rules)
-    (λ c κs. search rules)
-    (λ c κs. search rules)
-    (λ c κs. search rules)
-    (λ c κs. search rules)
-    (λ c. search rules)
-    (λ c.
+pub returns : goal.returns
+returns c =
     let p = c.requires in
     let m = merged_twice (columns registers) (columns_partition registers) _ _ _ p.0 _ _ _ _
-    (columns_span registers _ _ (whole registers lines c.args.t.now p.3) refl) p.2 c.unite_column.ensures
-    c.spread_column.ensures in
-    results_merged registers _ _ _ _ _ _ _ _
-    m
+    (columns_span registers _ _ (whole registers lines c.args.t.now p.3) refl) p.2 c.unite_column.ensures c.spread_column.ensures in
+    results_merged registers _ _ _ _ _ _ _ _ m
     (merged_twice (rows registers) (rows_partition registers) _ _ _ p.0 _ _ _ _
     (rows_span registers functions _ (ap length m ∙ united_length (columns registers) _ _ _ _ ∙ p.3))
     p.2 c.unite_row.ensures c.spread_row.ensures)
-    (ap₂ bit_or c.single.ensures c.single-2.ensures) c.move_bits.ensures))
+    (ap₂ bit_or c.single.ensures c.single-2.ensures) c.move_bits.ensures
