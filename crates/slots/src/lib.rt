@@ -133,11 +133,9 @@ fn drop_results(t: &mut [Mask], s: usize)
 fn above(around: &[Mask; PAIRS]) -> [Mask; REGISTERS]
     ensures { result ≡ above_slots registers around.now }
 {
-    let mut next: [Mask; REGISTERS] = [0; REGISTERS];
-    let mut h: usize = 0;
-    while h < REGISTERS {
-        next[h] = union(around, h, REGISTERS);
-        h = h + 1;
+    let mut next = [0; REGISTERS];
+    for (h, m) in next.iter_mut().enumerate() {
+        *m = union(around, h, REGISTERS);
     }
     next
 }
@@ -147,11 +145,9 @@ fn beside(around: &[Mask; PAIRS], s: usize) -> Mask
     requires { s < registers }
     ensures { result ≡ beside_slots registers around.now s registers }
 {
-    let mut m: Mask = 0;
-    let mut h: usize = 0;
-    while h < REGISTERS {
-        m = m | flag(around[REGISTERS * s + h], h);
-        h = h + 1;
+    let mut m = 0;
+    for h in 0..REGISTERS {
+        m |= flag(around[REGISTERS * s + h], h);
     }
     m
 }
@@ -342,24 +338,16 @@ impl SlotWindow {
 
 // ---- an equal test
 
-// What slot s is called, where slot b is called a.
-fn renamed(s: u8, a: u8, b: u8) -> u8
-    ensures { result ≡ cond (eqb s b) a s }
-{
-    if s == b { a } else { s }
-}
-
 // Slot b is called a: in the slots of the registers, in a table of masks, and in a table of results.
 fn rename_slot(slot: &mut [u8; REGISTERS], a: usize, b: usize)
-    requires { (a < registers) × (b < registers) × (length slot.old ≡ registers) }
+    requires a_is_slot { a < registers }
+    requires b_is_slot { b < registers }
     ensures { slot.new ≡ slot_renamed registers a b slot.old }
 {
     let to = a as u8;
     let from = b as u8;
-    let mut r: usize = 0;
-    while r < REGISTERS {
-        slot[r] = renamed(slot[r], to, from);
-        r = r + 1;
+    for s in slot.iter_mut() {
+        *s = if *s == from { to } else { *s };
     }
 }
 
@@ -405,10 +393,8 @@ fn doubled(res: &[Mask; RESULTS]) -> bool
     ensures { result ≡ doubled_of registers res.now results }
 {
     let mut found = false;
-    let mut i: usize = 0;
-    while i < RESULTS {
-        found = found | many(res[i]);
-        i = i + 1;
+    for m in res {
+        found |= many(*m);
     }
     found
 }
@@ -417,11 +403,9 @@ fn doubled(res: &[Mask; RESULTS]) -> bool
 fn pulled(regs: &[Mask; REGISTERS], slots: Mask) -> Mask
     ensures { result ≡ pulled_of regs.now slots registers }
 {
-    let mut m: Mask = 0;
-    let mut s: usize = 0;
-    while s < REGISTERS {
-        m = m | part(slots, regs[s], s);
-        s = s + 1;
+    let mut m = 0;
+    for (s, own) in regs.iter().enumerate() {
+        m |= part(slots, *own, s);
     }
     m
 }
@@ -507,10 +491,8 @@ fn clash(unequal: &[Mask; REGISTERS]) -> bool
     ensures { result ≡ clash_slots unequal.now registers }
 {
     let mut bad = false;
-    let mut s: usize = 0;
-    while s < REGISTERS {
-        bad = bad | apart(unequal, s, single(s));
-        s = s + 1;
+    for s in 0..REGISTERS {
+        bad |= apart(unequal, s, single(s));
     }
     bad
 }
@@ -650,9 +632,9 @@ impl SlotWindow {
         ensures { result ≡ pulled_classes registers self.now.slot self.now.regs }
     {
         let mut next = [0; REGISTERS];
-        for r in 0..REGISTERS {
+        for (r, m) in next.iter_mut().enumerate() {
             let own = self.regs[self.slot_of(r)];
-            next[r] = part(own, own, r);
+            *m = part(own, own, r);
         }
         next
     }
@@ -676,8 +658,8 @@ impl SlotWindow {
         requires t_in_lines { length t.now % registers ≡ 0 }
         ensures { next.new ≡ pulled_masks registers self.now.slot self.now.regs t.now (length t.now) }
     {
-        for k in 0..next.len() {
-            next[k] = self.pulled_entry(t, k);
+        for (k, m) in next.iter_mut().enumerate() {
+            *m = self.pulled_entry(t, k);
         }
     }
 
@@ -685,8 +667,8 @@ impl SlotWindow {
         ensures { result ≡ pulled_results registers self.now.slot self.now.regs self.now.result results }
     {
         let mut next = [0; RESULTS];
-        for k in 0..RESULTS {
-            next[k] = pulled(&self.regs, self.entry(k));
+        for (k, m) in next.iter_mut().enumerate() {
+            *m = pulled(&self.regs, self.entry(k));
         }
         next
     }
@@ -696,8 +678,8 @@ impl SlotWindow {
         ensures { result ≡ pulled_marks registers self.now.slot self.now.regs self.now.mark }
     {
         let mut next = [false; REGISTERS];
-        for r in 0..REGISTERS {
-            next[r] = self.held(r) & self.mark[r];
+        for (r, m) in next.iter_mut().enumerate() {
+            *m = self.held(r) & self.mark[r];
         }
         next
     }
@@ -733,8 +715,8 @@ fn name_slots(class: &[Mask; REGISTERS]) -> [u8; REGISTERS]
     ensures { Low registers result }
 {
     let mut slot = [0; REGISTERS];
-    for r in 0..REGISTERS {
-        slot[r] = (name(class[r]) % REGISTERS) as u8;
+    for (r, s) in slot.iter_mut().enumerate() {
+        *s = (name(class[r]) % REGISTERS) as u8;
     }
     slot
 }
@@ -742,8 +724,8 @@ fn name_slots(class: &[Mask; REGISTERS]) -> [u8; REGISTERS]
 // The registers of each slot.
 fn group(class: &[Mask; REGISTERS], lowest: Mask) -> [Mask; REGISTERS] {
     let mut regs = [0; REGISTERS];
-    for s in 0..REGISTERS {
-        regs[s] = part(lowest, class[s], s);
+    for (s, m) in regs.iter_mut().enumerate() {
+        *m = part(lowest, class[s], s);
     }
     regs
 }
@@ -761,10 +743,8 @@ fn keep(t: &mut [Mask], used: Mask, step: usize)
     requires { 0 < step }
     ensures { length t.new ≡ length t.old }
 {
-    let mut k: usize = 0;
-    while k < t.len() {
-        t[k] = kept(used, step, t[k], k);
-        k = k + 1;
+    for (k, m) in t.iter_mut().enumerate() {
+        *m = kept(used, step, *m, k);
     }
 }
 
@@ -773,12 +753,10 @@ fn make_around(res: &[Mask; RESULTS]) -> [Mask; PAIRS]
     ensures value { result ≡ around_of registers functions res.now }
     ensures around { Around registers functions res.now result }
 {
-    let mut next: [Mask; PAIRS] = [0; PAIRS];
-    let mut i: usize = 0;
-    while i < PAIRS {
+    let mut next = [0; PAIRS];
+    for (i, m) in next.iter_mut().enumerate() {
         let turned = REGISTERS * (i % REGISTERS) + i / REGISTERS;
-        next[i] = results_at(res, i) | results_at(res, turned);
-        i = i + 1;
+        *m = results_at(res, i) | results_at(res, turned);
     }
     next
 }
@@ -814,11 +792,9 @@ impl SlotWindow {
 fn used(regs: &[Mask; REGISTERS]) -> Mask
     ensures { result ≡ used_of registers regs.now registers }
 {
-    let mut m: Mask = 0;
-    let mut s: usize = 0;
-    while s < REGISTERS {
-        m = m | single_if(regs[s] != 0, s);
-        s = s + 1;
+    let mut m = 0;
+    for (s, own) in regs.iter().enumerate() {
+        m |= single_if(*own != 0, s);
     }
     m
 }
@@ -829,45 +805,8 @@ fn clean(t: &[Mask], used: Mask, step: usize) -> bool
     ensures { result ≡ clean_of registers used step t.now (length t.now) }
 {
     let mut fine = true;
-    let mut k: usize = 0;
-    while k < t.len() {
-        fine = fine & (t[k] == kept(used, step, t[k], k));
-        k = k + 1;
-    }
-    fine
-}
-
-// Whether two tests have the same answer.
-fn alike(a: bool, b: bool) -> bool
-    ensures { result ≡ alike_of registers a b }
-{
-    if a {
-        return b;
-    }
-    !b
-}
-
-fn same_masks(a: &[Mask], b: &[Mask]) -> bool
-    requires { length b.now ≡ length a.now }
-    ensures { result ≡ same_masks registers a.now b.now (length a.now) }
-{
-    let mut fine = true;
-    let mut k: usize = 0;
-    while k < a.len() {
-        fine = fine & (a[k] == b[k]);
-        k = k + 1;
-    }
-    fine
-}
-
-fn same_marks(a: &[bool; REGISTERS], b: &[bool; REGISTERS]) -> bool
-    ensures { result ≡ same_marks registers a.now b.now registers }
-{
-    let mut fine = true;
-    let mut k: usize = 0;
-    while k < REGISTERS {
-        fine = fine & alike(a[k], b[k]);
-        k = k + 1;
+    for (k, m) in t.iter().enumerate() {
+        fine &= *m == kept(used, step, *m, k);
     }
     fine
 }
@@ -877,11 +816,11 @@ fn same_window(v: &Window, w: &Window) -> bool
     ensures value { result ≡ same_window registers functions v.now w.now }
     ensures same { result ≡ true → v.now ≡ w.now }
 {
-    let tables = ((same_masks(&v.class, &w.class) & same_masks(&v.unequal, &w.unequal))
-        & same_masks(&v.result, &w.result))
-        & same_masks(&v.ever, &w.ever);
-    ((tables & same_marks(&v.mark, &w.mark)) & alike(v.infeasible, w.infeasible))
-        & (v.classes == w.classes)
+    let tables = (v.class == w.class)
+        & (v.unequal == w.unequal)
+        & (v.result == w.result)
+        & (v.ever == w.ever);
+    tables & (v.mark == w.mark) & (v.infeasible == w.infeasible) & (v.classes == w.classes)
 }
 
 impl SlotWindow {
@@ -889,7 +828,7 @@ impl SlotWindow {
     fn members(&self, count: usize, s: usize) -> Mask
         ensures { result ≡ members_of registers self.now.slot count s registers }
     {
-        let mut m: Mask = 0;
+        let mut m = 0;
         for r in 0..REGISTERS {
             m |= single_if((r < count) & (self.slot[r] as usize == s), r);
         }

@@ -1,6 +1,6 @@
 -- The loops of the code that pulls a window from slots, names slots, and compares: one turn each, and their end.
-use mathlib.Core.Path.{◌≡◌, refl, sym, ap, ◌∙◌}
-use mathlib.Core.Bool.{Bool, true, false, not, cond, ◌&&◌}
+use mathlib.Core.Path.{◌≡◌, refl, sym, ap, subst, ◌∙◌}
+use mathlib.Core.Bool.{Bool, true, false, not, cond, beq, ◌&&◌}
 use mathlib.Core.List.{List}
 use Prim.Native.Nat.{ℕ, zero, suc, ◌+◌, ◌*◌, ◌/◌, ◌%◌, ◌^◌, ◌≤◌, ◌<◌}
 use native.Mathlib.Omega.{arith}
@@ -9,7 +9,8 @@ use lib.Dec.{eqb, ltb}
 use lib.Bits.{bit_or}
 use lib.ListN.{length, get_or, set, length-set}
 use lib.Seq.{get_or-set_same, get_or-set_other, ext_get_or}
-use borrow.Author.Tests.{eqb-true, eqb-false, lt-ltb, le-ltb}
+use borrow.Author.Tests.{eq-eqb, eqb-true, eqb-false, lt-ltb, le-ltb}
+use Rattle.std.specs.Bool.{Decides}
 use Rattle.letters.proofs.Theory.WordLaws.{and_true}
 use Rattle.base.specs.Choice.{pick}
 use Rattle.base.proofs.Theory.Choice.{by_test}
@@ -128,23 +129,6 @@ module _ (ρ : ℕ) where
   unfolding clean_of
   clean_more used step l k b v e d = rw (add-one, e, d)
 
-  pub same_none : (l m : List ℕ) → true ≡ same_masks ρ l m 0
-  unfolding same_masks
-  same_none l m = refl
-
-  pub same_more : (l m : List ℕ) (k : ℕ) (b : Bool) → b ≡ same_masks ρ l m k → (b && eqb (get_or l k 0) (get_or m k 0)) ≡ same_masks ρ l m (k + 1)
-  unfolding same_masks
-  same_more l m k b e = rw (add-one, e)
-
-  pub marks_none : (l m : List Bool) → true ≡ same_marks ρ l m 0
-  unfolding same_marks
-  marks_none l m = refl
-
-  pub marks_more : (l m : List Bool) (k : ℕ) (b v : Bool) → b ≡ same_marks ρ l m k → v ≡ alike_of ρ (get_or l k false) (get_or m k false)
-      → (b && v) ≡ same_marks ρ l m (k + 1)
-  unfolding same_marks
-  marks_more l m k b v e d = rw (add-one, e, d)
-
 module _ (ρ φ : ℕ) where
   -- what the code finds of each table
   pub regular_checked : (slot regs unequal result ever : List ℕ) (mark : List Bool) (i : Bool) (n used : ℕ) (g u e r s d : Bool)
@@ -163,6 +147,11 @@ module _ (ρ φ : ℕ) where
 
 -- ---- windows that are the same
 
+two_tests : (a b : Bool) → (a ≡ true → b ≡ true) → (b ≡ true → a ≡ true) → a ≡ b
+two_tests true b f g = sym (f refl)
+two_tests false true f g = g refl
+two_tests false false f g = refl
+
 module _ (ρ : ℕ) where
   same_at : (l m : List ℕ) (k : ℕ) → same_masks ρ l m k ≡ true → (i : ℕ) → i < k → get_or l i 0 ≡ get_or m i 0
   unfolding same_masks
@@ -173,6 +162,21 @@ module _ (ρ : ℕ) where
 
   masks_same : (l m : List ℕ) (k : ℕ) → length l ≡ k → length m ≡ k → same_masks ρ l m k ≡ true → l ≡ m
   masks_same l m k f g e = ext_get_or 0 l m (f ∙ sym g) (λ i h. same_at l m k e i (omega arith))
+
+  masks_self : (l : List ℕ) (k : ℕ) → same_masks ρ l l k ≡ true
+  unfolding same_masks
+  masks_self l zero = refl
+  masks_self l (suc k) = rw (masks_self l k, eq-eqb (get_or l k 0) (get_or l k 0) refl)
+
+  -- a test that decides whether two lists are one
+  pub masks_decided : (l m : List ℕ) (k : ℕ) (r : Bool) → length l ≡ k → length m ≡ k → Decides r (l ≡ m) → r ≡ same_masks ρ l m k
+  masks_decided l m k r f g d =
+      two_tests r (same_masks ρ l m k) (λ t. subst (λ o. same_masks ρ l o k ≡ true) (d.0 t) (masks_self l k)) (λ t. d.1 (masks_same l m k f g t))
+
+  alike_self : (a : Bool) → alike_of ρ a a ≡ true
+  unfolding alike_of
+  alike_self true = refl
+  alike_self false = refl
 
   alike_same : (a b : Bool) → alike_of ρ a b ≡ true → a ≡ b
   unfolding alike_of
@@ -189,6 +193,22 @@ module _ (ρ : ℕ) where
 
   marks_same : (l m : List Bool) (k : ℕ) → length l ≡ k → length m ≡ k → same_marks ρ l m k ≡ true → l ≡ m
   marks_same l m k f g e = ext_get_or false l m (f ∙ sym g) (λ i h. marks_at l m k e i (omega arith))
+
+  marks_self : (l : List Bool) (k : ℕ) → same_marks ρ l l k ≡ true
+  unfolding same_marks
+  marks_self l zero = refl
+  marks_self l (suc k) = rw (marks_self l k, alike_self (get_or l k false))
+
+  pub marks_decided : (l m : List Bool) (k : ℕ) (r : Bool) → length l ≡ k → length m ≡ k → Decides r (l ≡ m) → r ≡ same_marks ρ l m k
+  marks_decided l m k r f g d =
+      two_tests r (same_marks ρ l m k) (λ t. subst (λ o. same_marks ρ l o k ≡ true) (d.0 t) (marks_self l k)) (λ t. d.1 (marks_same l m k f g t))
+
+  pub alike_decided : (a b : Bool) → beq a b ≡ alike_of ρ a b
+  unfolding alike_of
+  alike_decided true true = refl
+  alike_decided true false = refl
+  alike_decided false true = refl
+  alike_decided false false = refl
 
 module _ (ρ φ : ℕ) where
   -- the tables have the lengths of their types
@@ -217,19 +237,18 @@ module _ (ρ φ : ℕ) where
       let ne = eqb-true v.classes w.classes n in
       λ k. record { class = ce k; unequal = ue k; result = re k; ever = ee k; mark = me k; infeasible = ie k; classes = ne k }
 
-  -- what the code finds of each table
-  pub window_compared : (v w : Window) (c u r e m i n : Bool) → Long v
-      → c ≡ same_masks ρ v.class w.class (length v.class) → u ≡ same_masks ρ v.unequal w.unequal (length v.unequal)
-      → r ≡ same_masks ρ v.result w.result (length v.result) → e ≡ same_masks ρ v.ever w.ever (length v.ever)
-      → m ≡ same_marks ρ v.mark w.mark ρ → i ≡ alike_of ρ v.infeasible w.infeasible → n ≡ eqb v.classes w.classes
-      → ((((((c && u) && r) && e) && m) && i) && n) ≡ same_window ρ φ v w
+  -- what `==` finds of each table
+  pub window_compared : (v w : Window) (c u r e m : Bool) → Long v → Long w → Decides c (v.class ≡ w.class) → Decides u (v.unequal ≡ w.unequal)
+      → Decides r (v.result ≡ w.result) → Decides e (v.ever ≡ w.ever) → Decides m (v.mark ≡ w.mark)
+      → ((((((c && u) && r) && e) && m) && beq v.infeasible w.infeasible) && eqb v.classes w.classes) ≡ same_window ρ φ v w
   unfolding same_window
-  window_compared v w c u r e m i n f ce ue re ee me ie ne =
-      let cf = ce ∙ ap (same_masks ρ v.class w.class) f.class in
-      let uf = ue ∙ ap (same_masks ρ v.unequal w.unequal) f.unequal in
-      let rf = re ∙ ap (same_masks ρ v.result w.result) f.result in
-      let ef = ee ∙ ap (same_masks ρ v.ever w.ever) f.ever in
-      rw (cf, uf, rf, ef, me, ie, ne)
+  window_compared v w c u r e m f g ce ue re ee me =
+      let cf = masks_decided ρ v.class w.class ρ c f.class g.class ce in
+      let uf = masks_decided ρ v.unequal w.unequal ρ u f.unequal g.unequal ue in
+      let rf = masks_decided ρ v.result w.result (φ * ρ * ρ) r f.result g.result re in
+      let ef = masks_decided ρ v.ever w.ever (φ * ρ) e f.ever g.ever ee in
+      let mf = marks_decided ρ v.mark w.mark ρ m f.mark g.mark me in
+      rw (cf, uf, rf, ef, mf, alike_decided ρ v.infeasible w.infeasible)
 
   -- the answers of `represents`, one each
   pub never : (v w : Window) → false ≡ true → v ≡ w

@@ -9,4 +9,4 @@ use Rattle.slots.proofs.SlotWindow.pull_classes.Given as goal
 abbrev pub invariant-loop-r : goal.invariant-loop-r
 invariant-loop-r l =
     let w = l.self in
-    WrittenUpTo (λ k. pick (has_slot w.slot w.regs k) (λ _. get_or w.regs (slot_of w.slot k) 0) λ _. 0) 0 registers l.r l.next
+    WrittenUpTo (λ k. pick (has_slot w.slot w.regs k) (λ _. get_or w.regs (slot_of w.slot k) 0) λ _. 0) 0 registers l.r l.m-items

@@ -6,4 +6,4 @@ use Rattle.slots.proofs.SlotWindow.pull_results.Given as goal
 abbrev pub invariant-loop-k : goal.invariant-loop-k
 invariant-loop-k l =
     let w = l.self in
-    WrittenUpTo (λ i. pulled_of w.regs (entry_of registers w.slot w.regs w.result i) registers) 0 results l.k l.next
+    WrittenUpTo (λ i. pulled_of w.regs (entry_of registers w.slot w.regs w.result i) registers) 0 results l.k l.m-items
