@@ -148,7 +148,8 @@ module _ (ρ : ℕ) where
   -- "Memoizing": a slot holds the value, or it was never computed (SPEC 5.6)
   unfoldable pub memoizing_slots : List ℕ → List ℕ → List ℕ → ℕ → ℕ → ℕ → Bool
   memoizing_slots slot result ever f y z =
-      pick (has (get_or ever (ρ * f + slot_of slot y) 0) (slot_of slot z)) (λ _. nonempty ρ (get_or result (place ρ f (slot_of slot y) (slot_of slot z)) 0)) λ _. true
+      pick (has (get_or ever (ρ * f + slot_of slot y) 0) (slot_of slot z))
+      (λ _. nonempty ρ (get_or result (place ρ f (slot_of slot y) (slot_of slot z)) 0)) λ _. true
 
 -- ---- a letter
 

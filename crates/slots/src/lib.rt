@@ -73,6 +73,7 @@ impl SlotWindow {
     }
 
     // Whether the register has a slot.
+    #[tactic(auto, unfolding(crate::specs::Performing::has_slot))]
     fn held(&self, r: usize) -> bool
         requires { r < registers }
         ensures { result ≡ has_slot self.now.slot self.now.regs r }
@@ -81,6 +82,7 @@ impl SlotWindow {
     }
 
     // Register x goes to slot t.
+    #[tactic(auto, unfolding(crate::specs::Performing::regs_moved, window::specs::Bits::minus))]
     fn move_register(&mut self, x: usize, t: usize)
         requires x_is_register { x < registers }
         requires t_is_slot { t < registers }
@@ -106,6 +108,7 @@ impl SlotWindow {
     }
 
     // The lowest register of the lowest slot of a mask; their number if the mask is empty.
+    #[tactic(auto, using(base::proofs::Theory::Choice::decide), unfolding(crate::specs::Performing::register_in))]
     fn register_in(&self, slots: Mask) -> usize
         ensures { result ≡ register_in registers self.now.regs slots }
     {
@@ -120,8 +123,10 @@ impl SlotWindow {
 // ---- a slot without registers
 
 // In a table of results, slot s is no argument and holds none.
+#[tactic(auto, unfolding(crate::specs::Performing::results_dropped))]
 fn drop_results(t: &mut [Mask], s: usize)
-    requires { (s < registers) × (length t.old % register_pairs ≡ 0) }
+    requires s_is_slot { s < registers }
+    requires t_in_squares { length t.old % register_pairs ≡ 0 }
     ensures { t.new ≡ results_dropped registers s t.old }
 {
     move_bits(t, 0, single(s));
@@ -130,6 +135,7 @@ fn drop_results(t: &mut [Mask], s: usize)
 }
 
 // For each slot, the slots that hold a result with it as an argument.
+#[tactic(auto, using(crate::proofs::Theory::Loops::written))]
 fn above(around: &[Mask; PAIRS]) -> [Mask; REGISTERS]
     ensures { result ≡ above_slots registers around.now }
 {
@@ -141,6 +147,7 @@ fn above(around: &[Mask; PAIRS]) -> [Mask; REGISTERS]
 }
 
 // The slots with which s is an argument of a held result.
+#[tactic(auto, unfolding(crate::specs::Performing::beside_slots))]
 fn beside(around: &[Mask; PAIRS], s: usize) -> Mask
     requires { s < registers }
     ensures { result ≡ beside_slots registers around.now s registers }
@@ -168,6 +175,7 @@ fn raised(up: &[Mask; REGISTERS], seed: Mask) -> Mask
 
 // The slots whose registers get a mark as slot s loses its value: those below a result that has s as an argument or that s holds, and `more` and
 // those below it; s itself too, which has no register then, or one whose mark is cleared next.
+#[tactic(auto, unfolding(crate::specs::Performing::lost_slots))]
 fn lost_slots(around: &[Mask; PAIRS], s: usize, more: Mask) -> Mask
     requires { s < registers }
     ensures { result ≡ lost_slots registers around.now s more }
@@ -178,6 +186,7 @@ fn lost_slots(around: &[Mask; PAIRS], s: usize, more: Mask) -> Mask
 }
 
 // Gives a mark to the registers whose slot is in the mask.
+#[tactic(auto, using(window::proofs::Theory::Table::swept_none), unfolding(crate::specs::Performing::marks_in))]
 fn mark_slots(slot: &[u8; REGISTERS], mark: &mut [bool; REGISTERS], slots: Mask)
     requires { Low registers slot.now }
     ensures { mark.new ≡ marks_in registers slot.now mark.old slots }
@@ -190,6 +199,7 @@ fn mark_slots(slot: &[u8; REGISTERS], mark: &mut [bool; REGISTERS], slots: Mask)
 impl SlotWindow {
     // Slot s has no register any more, or one that gets a new value: it and what is below it, and `more` and what is below that, get a mark, and
     // the tables forget it.
+    #[tactic(auto, using(crate::proofs::Theory::Around::lost_around), unfolding(crate::specs::Performing::dropped_slots))]
     fn drop_slot(&mut self, s: usize, more: Mask)
         requires { s < registers }
         ensures { self.new ≡ dropped_slots registers functions self.old s more }
@@ -206,6 +216,7 @@ impl SlotWindow {
     }
 
     // The same, if the slot is empty.
+    #[tactic(auto, using(base::proofs::Theory::Choice::decide), unfolding(crate::specs::Performing::left_slots))]
     fn leave_slot(&mut self, s: usize, empty: bool)
         requires { s < registers }
         ensures { self.new ≡ left_slots registers functions self.old s empty }
@@ -218,6 +229,7 @@ impl SlotWindow {
     // ---- a copy
 
     // Register x comes to hold what y holds.
+    #[tactic(auto, using(base::proofs::Theory::Choice::decide), unfolding(crate::specs::Performing::copied_slots))]
     fn copy(&mut self, x: usize, y: usize)
         requires x_is_register { x < registers }
         requires y_is_register { y < registers }
@@ -238,8 +250,10 @@ impl SlotWindow {
 // ---- an application
 
 // The argument slots, where one of them is s.
+#[tactic(auto, unfolding(window::specs::Performing::arguments_of))]
 fn arguments(s: usize, a: usize, b: usize) -> Mask
-    requires { (a < registers) × (b < registers) }
+    requires a_is_slot { a < registers }
+    requires b_is_slot { b < registers }
     ensures { result ≡ arguments_of s a b (2 ^ a) (2 ^ b) }
 {
     if (a == s) | (b == s) {
@@ -273,6 +287,7 @@ impl SlotWindow {
     }
 
     // Register x, alone in its slot, gets the value of f at slots a and b.
+    #[tactic(auto, unfolding(crate::specs::Performing::renewed_slots))]
     fn renew(&mut self, x: usize, f: usize, a: usize, b: usize)
         requires x_is_register { x < registers }
         requires f_is_function { f < functions }
@@ -287,6 +302,7 @@ impl SlotWindow {
     }
 
     // Register x leaves its slot to others, and gets the value of f at slots a and b in a free one.
+    #[tactic(auto, using(base::proofs::Theory::Choice::decide), unfolding(crate::specs::Performing::freshened_slots))]
     fn freshen(&mut self, x: usize, f: usize, a: usize, b: usize)
         requires x_is_register { x < registers }
         requires f_is_function { f < functions }
@@ -302,6 +318,7 @@ impl SlotWindow {
     }
 
     // Register x gets the value of f at slots a and b, which was never computed.
+    #[tactic(auto, using(base::proofs::Theory::Choice::decide), unfolding(crate::specs::Performing::new_slots))]
     fn new_value(&mut self, x: usize, f: usize, a: usize, b: usize)
         requires x_is_register { x < registers }
         requires f_is_function { f < functions }
@@ -318,6 +335,7 @@ impl SlotWindow {
     }
 
     // The slots after x := f(y, z).
+    #[tactic(auto, using(base::proofs::Theory::Choice::decide), unfolding(crate::specs::Performing::apply_slots))]
     fn apply(&mut self, x: usize, f: usize, y: usize, z: usize)
         requires x_is_register { x < registers }
         requires f_is_function { f < functions }
@@ -339,6 +357,7 @@ impl SlotWindow {
 // ---- an equal test
 
 // Slot b is called a: in the slots of the registers, in a table of masks, and in a table of results.
+#[tactic(auto, using(window::proofs::Theory::Table::swept_none), unfolding(crate::specs::Performing::slot_renamed))]
 fn rename_slot(slot: &mut [u8; REGISTERS], a: usize, b: usize)
     requires a_is_slot { a < registers }
     requires b_is_slot { b < registers }
@@ -352,7 +371,9 @@ fn rename_slot(slot: &mut [u8; REGISTERS], a: usize, b: usize)
 }
 
 fn rename_masks(t: &mut [Mask], a: usize, b: usize)
-    requires { (a < registers) × (b < registers) × (length t.old % registers ≡ 0) }
+    requires a_is_slot { a < registers }
+    requires b_is_slot { b < registers }
+    requires t_in_lines { length t.old % registers ≡ 0 }
     ensures { t.new ≡ masks_renamed registers a b t.old }
 {
     unite_column(t, a, a, b);
@@ -360,28 +381,21 @@ fn rename_masks(t: &mut [Mask], a: usize, b: usize)
     forget_masks(t, b);
 }
 
-fn rename_results(res: &mut [Mask; RESULTS], a: usize, b: usize)
-    requires { (a < registers) × (b < registers) × (length res.old ≡ results) }
-    ensures { res.new ≡ results_renamed registers a b res.old }
+// Generic in the length, so that the compiler lays it out for each of the two tables.
+fn rename_results<const N: usize>(t: &mut [Mask; N], a: usize, b: usize)
+    requires a_is_slot { a < registers }
+    requires b_is_slot { b < registers }
+    requires t_in_squares { N % register_pairs ≡ 0 }
+    ensures { t.new ≡ results_renamed registers a b t.old }
 {
-    unite_column(res, a, a, b);
-    unite_row(res, a, a, b);
-    move_bits(res, single(a) | single(b), single(a));
-    drop_results(res, b);
-}
-
-// The same where an entry stands for a pair of slots; a function of its own, so that the compiler lays it out for the shorter table.
-fn rename_pairs(around: &mut [Mask; PAIRS], a: usize, b: usize)
-    requires { (a < registers) × (b < registers) × (length around.old ≡ register_pairs) }
-    ensures { around.new ≡ results_renamed registers a b around.old }
-{
-    unite_column(around, a, a, b);
-    unite_row(around, a, a, b);
-    move_bits(around, single(a) | single(b), single(a));
-    drop_results(around, b);
+    unite_column(t, a, a, b);
+    unite_row(t, a, a, b);
+    move_bits(t, single(a) | single(b), single(a));
+    drop_results(t, b);
 }
 
 // Whether the mask has two slots or more.
+#[tactic(auto, unfolding(crate::specs::Performing::many_of))]
 fn many(m: Mask) -> bool
     ensures { result ≡ many_of registers m }
 {
@@ -389,6 +403,7 @@ fn many(m: Mask) -> bool
 }
 
 // Whether one of the results is in two slots.
+#[tactic(auto, unfolding(crate::specs::Performing::doubled_of))]
 fn doubled(res: &[Mask; RESULTS]) -> bool
     ensures { result ≡ doubled_of registers res.now results }
 {
@@ -400,6 +415,7 @@ fn doubled(res: &[Mask; RESULTS]) -> bool
 }
 
 // The registers of the slots in a mask.
+#[tactic(auto, unfolding(crate::specs::Performing::pulled_of))]
 fn pulled(regs: &[Mask; REGISTERS], slots: Mask) -> Mask
     ensures { result ≡ pulled_of regs.now slots registers }
 {
@@ -412,6 +428,7 @@ fn pulled(regs: &[Mask; REGISTERS], slots: Mask) -> Mask
 
 impl SlotWindow {
     // The registers of slot b go to slot a.
+    #[tactic(auto, unfolding(crate::specs::Performing::merged_slots))]
     fn merge(&mut self, a: usize, b: usize)
         requires a_is_slot { a < registers }
         requires b_is_slot { b < registers }
@@ -423,10 +440,11 @@ impl SlotWindow {
         rename_masks(&mut self.unequal, a, b);
         rename_results(&mut self.result, a, b);
         rename_masks(&mut self.ever, a, b);
-        rename_pairs(&mut self.around, a, b);
+        rename_results(&mut self.around, a, b);
     }
 
     // The slots that hold the result at place k of a window.
+    #[tactic(auto, using(base::proofs::Theory::Choice::decide), unfolding(crate::specs::Performing::entry_of))]
     fn entry(&self, k: usize) -> Mask
         requires { k < results }
         ensures { result ≡ entry_of registers self.now.slot self.now.regs self.now.result k }
@@ -454,6 +472,7 @@ impl SlotWindow {
     }
 
     // The registers of the mask that are not in the slot of the given one.
+    #[tactic(auto, unfolding(window::specs::Bits::minus))]
     fn rest(&self, m: Mask, one: usize) -> Mask
         requires { one < registers }
         ensures { result ≡ minus m (get_or self.now.regs (slot_of self.now.slot one) 0) }
@@ -487,6 +506,7 @@ impl SlotWindow {
 }
 
 // Whether a slot is known unequal to itself.
+#[tactic(auto, using(crate::proofs::Theory::Loops::apart_itself), unfolding(crate::specs::Performing::clash_slots))]
 fn clash(unequal: &[Mask; REGISTERS]) -> bool
     ensures { result ≡ clash_slots unequal.now registers }
 {
@@ -499,6 +519,7 @@ fn clash(unequal: &[Mask; REGISTERS]) -> bool
 
 impl SlotWindow {
     // The slots are infeasible, if they were or something is bad. Infeasible ones have no unequal pairs.
+    #[tactic(auto, using(base::proofs::Theory::Choice::decide), unfolding(crate::specs::Performing::settled_slots))]
     fn settle(&mut self, bad: bool)
         ensures { self.new ≡ settled_slots registers functions self.old bad }
     {
@@ -509,6 +530,7 @@ impl SlotWindow {
     }
 
     // The slots after the test x = y.
+    #[tactic(auto, using(base::proofs::Theory::Choice::decide), unfolding(crate::specs::Performing::equal_slots))]
     fn equal(&mut self, x: usize, y: usize)
         requires x_is_register { x < registers }
         requires y_is_register { y < registers }
@@ -528,6 +550,7 @@ impl SlotWindow {
     // ---- an unequal test
 
     // Slots a and b are put apart.
+    #[tactic(auto, unfolding(crate::specs::Performing::apart_slots))]
     fn part(&mut self, a: usize, b: usize)
         requires a_is_slot { a < registers }
         requires b_is_slot { b < registers }
@@ -538,6 +561,7 @@ impl SlotWindow {
     }
 
     // The slots after the test x != y.
+    #[tactic(auto, unfolding(crate::specs::Performing::unequal_slots))]
     fn unequal(&mut self, x: usize, y: usize)
         requires x_is_register { x < registers }
         requires y_is_register { y < registers }
@@ -552,6 +576,7 @@ impl SlotWindow {
     // ---- a letter
 
     // Whether x := f(y, z) is coherent: a slot holds its value, or it was never computed ("memoizing").
+    #[tactic(auto, using(base::proofs::Theory::Choice::decide), unfolding(crate::specs::Performing::memoizing_slots))]
     fn memoizing(&self, f: usize, y: usize, z: usize) -> bool
         requires f_is_function { f < functions }
         requires y_is_register { y < registers }
@@ -567,6 +592,7 @@ impl SlotWindow {
     }
 
     // Whether the test x = y is coherent: nothing above either side is lost ("early"), or the sides are equal already.
+    #[tactic(auto, using(base::proofs::Theory::Choice::decide), unfolding(crate::specs::Performing::early_slots))]
     fn early(&self, x: usize, y: usize) -> bool
         requires x_is_register { x < registers }
         requires y_is_register { y < registers }
@@ -578,7 +604,8 @@ impl SlotWindow {
         true
     }
 
-    /// Whether the letter is coherent after a trace with the window of these slots. Its registers lie below REGISTERS and its function below FUNCTIONS.
+    /// Whether the letter is coherent after a trace with the window of these slots. Its registers lie below REGISTERS and its function below
+    /// FUNCTIONS.
     pub fn judge(&self, letter: Letter) -> bool
         requires { WithinPacking letter }
         ensures { result ≡ judge_slots registers functions self.now letter }
@@ -628,6 +655,7 @@ impl SlotWindow {
     // ---- the window of slots
 
     // The class of each register.
+    #[tactic(auto, using(crate::proofs::Theory::Loops::written), unfolding(crate::specs::Performing::has_slot, window::specs::Adding::part_of))]
     fn pull_classes(&self) -> [Mask; REGISTERS]
         ensures { result ≡ pulled_classes registers self.now.slot self.now.regs }
     {
@@ -640,6 +668,7 @@ impl SlotWindow {
     }
 
     // The mask at entry k of a window's table, where t is the table of slots.
+    #[tactic(auto, using(base::proofs::Theory::Choice::decide), unfolding(crate::specs::Performing::pulled_at))]
     fn pulled_entry(&self, t: &[Mask], k: usize) -> Mask
         requires k_is_entry { k < length t.now }
         requires t_in_lines { length t.now % registers ≡ 0 }
@@ -653,6 +682,7 @@ impl SlotWindow {
     }
 
     // A window's table of masks, from the table of slots.
+    #[tactic(auto, using(crate::proofs::Theory::Loops::written))]
     fn pull_masks(&self, t: &[Mask], next: &mut [Mask])
         requires next_as_long { length next.old ≡ length t.now }
         requires t_in_lines { length t.now % registers ≡ 0 }
@@ -663,6 +693,7 @@ impl SlotWindow {
         }
     }
 
+    #[tactic(auto, using(crate::proofs::Theory::Loops::written))]
     fn pull_results(&self) -> [Mask; RESULTS]
         ensures { result ≡ pulled_results registers self.now.slot self.now.regs self.now.result results }
     {
@@ -674,6 +705,7 @@ impl SlotWindow {
     }
 
     // The marks of the registers that have a slot.
+    #[tactic(auto, using(crate::proofs::Theory::Loops::written))]
     fn pull_marks(&self) -> [bool; REGISTERS]
         ensures { result ≡ pulled_marks registers self.now.slot self.now.regs self.now.mark }
     {
@@ -711,6 +743,7 @@ impl SlotWindow {
 // What the functions of this part compute is free: `represents` decides whether the slots are those of the window.
 
 // The slot of a class is its lowest register.
+#[tactic(auto, using(crate::proofs::Theory::Pulls::lowered))]
 fn name_slots(class: &[Mask; REGISTERS]) -> [u8; REGISTERS]
     ensures { Low registers result }
 {
@@ -731,6 +764,7 @@ fn group(class: &[Mask; REGISTERS], lowest: Mask) -> [Mask; REGISTERS] {
 }
 
 // What is left of the mask at entry k, if only the slots of `used` are kept: there, and as what the entry stands at.
+#[tactic(auto, unfolding(crate::specs::Performing::kept_at))]
 fn kept(used: Mask, step: usize, m: Mask, k: usize) -> Mask
     requires { 0 < step }
     ensures { result ≡ kept_at registers used step m k }
@@ -749,6 +783,7 @@ fn keep(t: &mut [Mask], used: Mask, step: usize)
 }
 
 // For each pair of slots, the slots that hold a result of some function at the two, in either order.
+#[tactic(auto, using(crate::proofs::Theory::Loops::written), unfolding(crate::specs::Around::around_of))]
 fn make_around(res: &[Mask; RESULTS]) -> [Mask; PAIRS]
     ensures value { result ≡ around_of registers functions res.now }
     ensures around { Around registers functions res.now result }
@@ -789,6 +824,7 @@ impl SlotWindow {
 // ---- whether slots are those of a window
 
 // The slots that have a register.
+#[tactic(auto, unfolding(crate::specs::Performing::used_of))]
 fn used(regs: &[Mask; REGISTERS]) -> Mask
     ensures { result ≡ used_of registers regs.now registers }
 {
@@ -800,6 +836,7 @@ fn used(regs: &[Mask; REGISTERS]) -> Mask
 }
 
 // Whether the table has the slots of `used` alone.
+#[tactic(auto, unfolding(crate::specs::Performing::clean_of))]
 fn clean(t: &[Mask], used: Mask, step: usize) -> bool
     requires { 0 < step }
     ensures { result ≡ clean_of registers used step t.now (length t.now) }
@@ -825,6 +862,7 @@ fn same_window(v: &Window, w: &Window) -> bool
 
 impl SlotWindow {
     // The registers below `count` whose slot is s.
+    #[tactic(auto, unfolding(crate::specs::Performing::members_of))]
     fn members(&self, count: usize, s: usize) -> Mask
         ensures { result ≡ members_of registers self.now.slot count s registers }
     {
@@ -836,6 +874,7 @@ impl SlotWindow {
     }
 
     // Whether each slot has the registers that name it.
+    #[tactic(auto, unfolding(crate::specs::Performing::grouped_of))]
     fn grouped(&self, count: usize) -> bool
         ensures { result ≡ grouped_of registers self.now.slot self.now.regs count registers }
     {
@@ -848,6 +887,7 @@ impl SlotWindow {
     }
 
     // Whether each register below `count` has its slot, a free slot is in no mask and has the empty one, and no result is in two slots.
+    #[tactic(auto, unfolding(crate::specs::Performing::regular_of))]
     fn regular(&self, count: usize) -> bool
         ensures value { result ≡ regular_of registers functions self.now count }
         ensures laid { Laid registers functions self.now.slot self.now.regs self.now.unequal self.now.result self.now.ever self.now.mark }
@@ -860,6 +900,7 @@ impl SlotWindow {
     }
 
     /// Whether these are the slots of the window, with that count of registers.
+    #[tactic(auto, using(base::proofs::Theory::Choice::decide), unfolding(crate::specs::Performing::represents_of))]
     pub fn represents(&self, window: &Window, count: usize) -> bool
         ensures value { result ≡ represents_of registers functions window.now self.now count }
         ensures same { result ≡ true → window.now ≡ window_of registers functions self.now }

@@ -36,10 +36,8 @@ use Rattle.slots.proofs.Theory.Tables.{added, results_dropped_is}
 use Rattle.slots.specs.Around.{Around, around_of}
 
 module _ (ρ φ : ℕ) where
-  pub around_same : (l l' t t' : List ℕ) → l' ≡ l → t' ≡ t → Around ρ φ l t → Around ρ φ l' t'
-  around_same l l' t t' p q h = rw (p, q) h
-
-  union_at : (l : List ℕ) (a b c : ℕ) → a < ρ → b < ρ → T (has (union_of l (ρ * a + b) (ρ * ρ) φ) c) ↔ ((f : ℕ) × (f < φ) × T (has (get_or l (place ρ f a b) 0) c))
+  union_at : (l : List ℕ) (a b c : ℕ) → a < ρ → b < ρ → T (has (union_of l (ρ * a + b) (ρ * ρ) φ) c)
+      ↔ ((f : ℕ) × (f < φ) × T (has (get_or l (place ρ f a b) 0) c))
   unfolding folded_of
   union_at l a b c ab bb = Iff.trans
       (same_iff (ap (λ m. has m c) (sym (table_at (λ i. union_of l i (ρ * ρ) φ) (ρ * ρ) (ρ * a + b) 0 (entry_below ρ ρ a b ab bb)))))
@@ -229,7 +227,8 @@ module _ (ρ : ℕ) where
   below_same : (up up' : List ℕ) → SameAbove up up' → (s k : ℕ) → k ≤ ρ → below_of ρ up s k ≡ below_of ρ up' s k
   unfolding below_of
   below_same up up' e s zero b = refl
-  below_same up up' e s (suc k) b = ap₂ bit_or (below_same up up' e s k (omega arith)) (flag_same (bit_and (get_or up k 0) s) (bit_and (get_or up' k 0) s) k (λ c cb.
+  below_same up up' e s (suc k) b = ap₂ bit_or (below_same up up' e s k (omega arith))
+      (flag_same (bit_and (get_or up k 0) s) (bit_and (get_or up' k 0) s) k (λ c cb.
       let i = e.same k c (omega arith) cb in (both (get_or up k 0) (get_or up' k 0) s c i, both (get_or up' k 0) (get_or up k 0) s c (Iff.symm i))))
 
   passes_same : (up up' : List ℕ) → SameAbove up up' → (n s : ℕ) → passes ρ up n s ≡ passes ρ up' n s
@@ -306,7 +305,8 @@ module _ (ρ φ : ℕ) (l t : List ℕ) (h : Around ρ φ l t) where
         p
 
     into : {h : ℕ} → BelowSeed ρ φ l seed h → Beneath ρ φ l x more h ⊎ (h ≡ x)
-    into {h} (seeded t) = ⊎_elim (λ u. ⊎_elim (λ v. inr ((single_is x h).0 v)) (λ v. inl (near h v)) ((or_is (2 ^ x) (beside_of ρ (folded_of ρ φ l) x ρ) h).0 u))
+    into {h} (seeded t) = ⊎_elim
+        (λ u. ⊎_elim (λ v. inr ((single_is x h).0 v)) (λ v. inl (near h v)) ((or_is (2 ^ x) (beside_of ρ (folded_of ρ φ l) x ρ) h).0 u))
         (λ u. inl (extra u)) ((or_is (bit_or (2 ^ x) (beside_of ρ (folded_of ρ φ l) x ρ)) more h).0 t)
     into (lower {c} hb cb (k, kb, u, d) o) = ⊎_elim (λ b. inl (beneath k kb cb u b d)) (λ e. inl (direct k kb cb u (inr (inr e)) d)) (into o)
 
@@ -319,7 +319,8 @@ module _ (ρ φ : ℕ) (l t : List ℕ) (h : Around ρ φ l t) where
         → (h ≡ place_first ρ k) ⊎ (h ≡ place_second ρ k) → BelowSeed ρ φ l seed h
     beside k {c} {h} kb cb t d e = go d e
       where
-        from : (h : ℕ) → h < ρ → T (has (get_or (folded_of ρ φ l) (ρ * x + h) 0) c) ⊎ T (has (get_or (folded_of ρ φ l) (ρ * h + x) 0) c) → BelowSeed ρ φ l seed h
+        from : (h : ℕ) → h < ρ → T (has (get_or (folded_of ρ φ l) (ρ * x + h) 0) c) ⊎ T (has (get_or (folded_of ρ φ l) (ρ * h + x) 0) c)
+            → BelowSeed ρ φ l seed h
         from h hb p = seeded ((or_is (bit_or (2 ^ x) (beside_of ρ (folded_of ρ φ l) x ρ)) more h).1
             (inl ((or_is (2 ^ x) (beside_of ρ (folded_of ρ φ l) x ρ) h).1 (inr ((beside_is ρ (folded_of ρ φ l) x ρ h).1 (hb, (c, cb, p)))))))
 

@@ -81,7 +81,8 @@ module _ (ρ m : ℕ) where
   unfolding doubled_of
   doubled_none l zero e j b t = absurd (omega arith)
   doubled_none l (suc k) e j b t = ⊎_elim
-      (λ i. no_truth (doubled_of ρ l k || many_of ρ (get_or l k 0)) e (or_r (doubled_of ρ l k) (many_of ρ (get_or l k 0)) (subst (λ z. T (many_of ρ (get_or l z 0))) i t)))
+      (λ i. no_truth (doubled_of ρ l k || many_of ρ (get_or l k 0)) e
+      (or_r (doubled_of ρ l k) (many_of ρ (get_or l k 0)) (subst (λ z. T (many_of ρ (get_or l z 0))) i t)))
       (λ i. doubled_none l k (is_false (doubled_of ρ l k)
       (λ u. no_truth (doubled_of ρ l k || many_of ρ (get_or l k 0)) e (or_l (doubled_of ρ l k) (many_of ρ (get_or l k 0)) u))) j (omega arith) t)
       (eq_or j k)

@@ -100,7 +100,8 @@ module _ (ρ n : ℕ) (slot regs : List ℕ) (lo : Low ρ slot) (k : Grouped ρ 
       → l ≡ pulled_masks ρ slot regs t (c * ρ)
   unfolding pulled_masks pulled_at
   masks_pulled c l t long small h =
-      table_is (λ i. pick (has_slot slot regs (i % ρ)) (λ _. pulled_of regs (get_or t (ρ * (i / ρ) + slot_of slot (i % ρ)) 0) ρ) λ _. 0) (c * ρ) l 0 long (λ i ib.
+      table_is (λ i. pick (has_slot slot regs (i % ρ)) (λ _. pulled_of regs (get_or t (ρ * (i / ρ) + slot_of slot (i % ρ)) 0) ρ) λ _. 0)
+      (c * ρ) l 0 long (λ i ib.
       let rb = mod-lt i (some ρ c i ib) in
       let jb = line_below ρ c i ib in
       let e = entry_is ρ i in

@@ -28,7 +28,8 @@ use Rattle.window.specs.Performing.{arguments_of, WithinLayout}
 use Rattle.slots.specs.Slots.{Slots, slot_of, Low, SlotTableLengths, Laid}
 use Rattle.slots.specs.Performing.{regs_moved, free_from, apart_slots, clash_slots, placed, register_in, find_slots, doubled_of, marks_in, slot_renamed}
 use Rattle.slots.specs.Performing.{results_dropped, masks_renamed, results_renamed, result_recorded, ever_recorded}
-use Rattle.slots.specs.Performing.{dropped_slots, left_slots, copied_slots, recorded_slots, renewed_slots, freshened_slots, new_slots, apply_slots, merged_slots}
+use Rattle.slots.specs.Performing.{dropped_slots, left_slots, copied_slots, recorded_slots, renewed_slots}
+use Rattle.slots.specs.Performing.{freshened_slots, new_slots, apply_slots, merged_slots}
 use Rattle.slots.specs.Performing.{closed_slots, settled_slots, equal_slots, unequal_slots, perform_slots}
 
 -- ---- lengths

@@ -1,69 +1,24 @@
--- The loops of the code that pulls a window from slots, names slots, and compares: one turn each, and their end.
+-- Of the code that names slots and compares windows: a turn of a loop and its end, and what `==` finds.
 use mathlib.Core.Path.{◌≡◌, refl, sym, ap, subst, ◌∙◌}
-use mathlib.Core.Bool.{Bool, true, false, not, cond, beq, ◌&&◌}
+use mathlib.Core.Bool.{Bool, true, false, beq, ◌&&◌}
 use mathlib.Core.List.{List}
-use Prim.Native.Nat.{ℕ, zero, suc, ◌+◌, ◌*◌, ◌/◌, ◌%◌, ◌^◌, ◌≤◌, ◌<◌}
+use Prim.Native.Nat.{ℕ, zero, suc, ◌+◌, ◌*◌, ◌≤◌, ◌<◌}
 use native.Mathlib.Omega.{arith}
-use native.Mathlib.Numerals.{add-one}
-use lib.Dec.{eqb, ltb}
-use lib.Bits.{bit_or}
+use lib.Dec.{eqb}
 use lib.ListN.{length, get_or, set, length-set}
 use lib.Seq.{get_or-set_same, get_or-set_other, ext_get_or}
-use borrow.Author.Tests.{eq-eqb, eqb-true, eqb-false, lt-ltb, le-ltb}
+use borrow.Author.Tests.{eq-eqb, eqb-true, eqb-false, le-ltb}
 use Rattle.std.specs.Bool.{Decides}
 use Rattle.letters.proofs.Theory.WordLaws.{and_true}
-use Rattle.base.specs.Choice.{pick}
 use Rattle.base.proofs.Theory.Choice.{by_test}
-use Rattle.base.specs.Masks.{has}
-use Rattle.window.specs.Adding.{part_of}
-use Rattle.window.specs.Counting.{counted_classes}
 use Rattle.window.specs.declared.Window.{Window}
-use Rattle.slots.specs.Slots.{Slots, slots_of, slot_of, Low}
-use Rattle.slots.specs.Performing.{has_slot, pulled_of, pulled_at, pulled_masks, pulled_results, pulled_classes, pulled_marks, window_of, doubled_of}
-use Rattle.slots.specs.Performing.{members_of, grouped_of, used_of, kept_at, clean_of, regular_of, same_masks, alike_of, same_marks, same_window, represents_of}
+use Rattle.slots.specs.Slots.{Slots, slot_of, Low}
+use Rattle.slots.specs.Performing.{window_of}
+use Rattle.slots.specs.Performing.{regular_of, same_masks, alike_of, same_marks, same_window, represents_of}
 
 -- a fold up to i, where i is the end
 pub at_end {ℓ} : {A : Type ℓ} (F : ℕ → A) (n i : ℕ) (b : A) → i ≤ n → n ≤ i → b ≡ F i → b ≡ F n
 at_end F n i b h g e = e ∙ ap F (omega arith)
-
--- ---- the window of slots
-
--- a register's class, where it has one
-pub class_pulled : (slot regs : List ℕ) (r s v : ℕ) → s ≡ slot_of slot r → v ≡ part_of (get_or regs s 0) (get_or regs s 0) r
-    → v ≡ pick (has_slot slot regs r) (λ _. get_or regs (slot_of slot r) 0) λ _. 0
-unfolding has_slot part_of
-class_pulled slot regs r s v e d = by_test (has (get_or regs (slot_of slot r) 0) r) (λ t. d ∙ rw (e, t)) (λ t. d ∙ rw (e, t))
-
--- a register's mark, where it has a slot
-pub mark_pulled : (h g m : Bool) → h ≡ g → (h && m) ≡ (g && m)
-mark_pulled h g m e = rw e
-
--- the registers of a result's slots
-pub result_pulled : (regs : List ℕ) (n m x v : ℕ) → m ≡ x → v ≡ pulled_of regs m n → v ≡ pulled_of regs x n
-result_pulled regs n m x v e d = d ∙ rw e
-
-module _ (ρ : ℕ) where
-  pub entry_pulled : (slot regs l : List ℕ) (k s v : ℕ) → has_slot slot regs (k % ρ) ≡ true → s ≡ slot_of slot (k % ρ)
-      → v ≡ pulled_of regs (get_or l (ρ * (k / ρ) + s) 0) ρ → v ≡ pulled_at ρ slot regs l k
-  unfolding pulled_at
-  entry_pulled slot regs l k s v t e d = rw t (d ∙ rw e)
-
-  pub entry_none : (slot regs l : List ℕ) (k : ℕ) → has_slot slot regs (k % ρ) ≡ false → 0 ≡ pulled_at ρ slot regs l k
-  unfolding pulled_at
-  entry_none slot regs l k t = rw t
-
-module _ (ρ φ : ℕ) where
-  -- what the code pulls of each table
-  pub window_pulled : (slot regs unequal result ever : List ℕ) (mark : List Bool) (i : Bool) (c u r e : List ℕ) (m : List Bool) (n : ℕ)
-      → length unequal ≡ ρ → length ever ≡ φ * ρ → c ≡ pulled_classes ρ slot regs → u ≡ pulled_masks ρ slot regs unequal (length unequal)
-      → r ≡ pulled_results ρ slot regs result (φ * ρ * ρ) → e ≡ pulled_masks ρ slot regs ever (length ever) → m ≡ pulled_marks ρ slot regs mark
-      → n ≡ counted_classes ρ c → ◌≡◌ {A = Window} (record { class = c; unequal = u; result = r; ever = e; mark = m; infeasible = i; classes = n })
-      (window_of ρ φ (slots_of slot regs unequal result ever mark i))
-  window_pulled slot regs unequal result ever mark i c u r e m n ul el ce ue re ee me ne =
-      let uf = ue ∙ ap (pulled_masks ρ slot regs unequal) ul in
-      let ef = ee ∙ ap (pulled_masks ρ slot regs ever) el in
-      let nf = ne ∙ ap (counted_classes ρ) ce in
-      λ k. record { class = ce k; unequal = uf k; result = re k; ever = ef k; mark = me k; infeasible = i; classes = nf k }
 
 -- ---- slots for a window
 
@@ -87,63 +42,8 @@ module _ (ρ : ℕ) where
   pub lowered_all : (i : ℕ) (slot : List ℕ) → Lowered i slot → ρ ≤ i → Low ρ slot
   lowered_all i slot w h = record { long = w.long; below = λ r b. w.below r (omega arith) }
 
--- ---- whether slots are those of a window
-
-module _ (ρ : ℕ) where
-  pub members_none : (slot : List ℕ) (n s : ℕ) → 0 ≡ members_of ρ slot n s 0
-  unfolding members_of
-  members_none slot n s = refl
-
-  pub members_more : (slot : List ℕ) (n s k m a v : ℕ) → m ≡ members_of ρ slot n s k → a ≡ slot_of slot k → v ≡ cond (ltb k n && eqb a s) (2 ^ k) 0
-      → bit_or m v ≡ members_of ρ slot n s (k + 1)
-  unfolding members_of
-  members_more slot n s k m a v e f d = rw (add-one, e, d, f)
-
-  pub grouped_none : (slot regs : List ℕ) (n : ℕ) → true ≡ grouped_of ρ slot regs n 0
-  unfolding grouped_of
-  grouped_none slot regs n = refl
-
-  pub grouped_more : (slot regs : List ℕ) (n k : ℕ) (b : Bool) (a m : ℕ) → b ≡ grouped_of ρ slot regs n k → a ≡ slot_of slot k → m ≡ members_of ρ slot n k ρ
-      → (b && (ltb a ρ && eqb (get_or regs k 0) m)) ≡ grouped_of ρ slot regs n (k + 1)
-  unfolding grouped_of
-  grouped_more slot regs n k b a m e f d = rw (add-one, e, d, f)
-
-  pub used_none : (regs : List ℕ) → 0 ≡ used_of ρ regs 0
-  unfolding used_of
-  used_none regs = refl
-
-  turned : (b : Bool) (x y : ℕ) → cond (not b) x y ≡ cond b y x
-  turned true x y = refl
-  turned false x y = refl
-
-  pub used_more : (regs : List ℕ) (k m v : ℕ) → m ≡ used_of ρ regs k → v ≡ cond (not (eqb (get_or regs k 0) 0)) (2 ^ k) 0 → bit_or m v ≡ used_of ρ regs (k + 1)
-  unfolding used_of
-  used_more regs k m v e d = rw (add-one, e, d ∙ turned (eqb (get_or regs k 0) 0) (2 ^ k) 0)
-
-  pub clean_none : (used step : ℕ) (l : List ℕ) → true ≡ clean_of ρ used step l 0
-  unfolding clean_of
-  clean_none used step l = refl
-
-  pub clean_more : (used step : ℕ) (l : List ℕ) (k : ℕ) (b : Bool) (v : ℕ) → b ≡ clean_of ρ used step l k → v ≡ kept_at ρ used step (get_or l k 0) k
-      → (b && eqb (get_or l k 0) v) ≡ clean_of ρ used step l (k + 1)
-  unfolding clean_of
-  clean_more used step l k b v e d = rw (add-one, e, d)
-
-module _ (ρ φ : ℕ) where
-  -- what the code finds of each table
-  pub regular_checked : (slot regs unequal result ever : List ℕ) (mark : List Bool) (i : Bool) (n used : ℕ) (g u e r s d : Bool)
-      → length unequal ≡ ρ → length ever ≡ φ * ρ → length result ≡ φ * ρ * ρ
-      → used ≡ used_of ρ regs ρ → g ≡ grouped_of ρ slot regs n ρ → u ≡ clean_of ρ used 1 unequal (length unequal)
-      → e ≡ clean_of ρ used 1 ever (length ever) → r ≡ clean_of ρ used 1 result (length result) → s ≡ clean_of ρ used ρ result (length result)
-      → d ≡ doubled_of ρ result (φ * ρ * ρ)
-      → (((((g && u) && e) && r) && s) && not d) ≡ regular_of ρ φ (slots_of slot regs unequal result ever mark i) n
-  unfolding regular_of
-  regular_checked slot regs unequal result ever mark i n used g u e r s d ul el rl we ge ue ee re se de =
-      let uf = ue ∙ ap (clean_of ρ used 1 unequal) ul ∙ ap (λ z. clean_of ρ z 1 unequal ρ) we in
-      let ef = ee ∙ ap (clean_of ρ used 1 ever) el ∙ ap (λ z. clean_of ρ z 1 ever (φ * ρ)) we in
-      let rf = re ∙ ap (clean_of ρ used 1 result) rl ∙ ap (λ z. clean_of ρ z 1 result (φ * ρ * ρ)) we in
-      let sf = se ∙ ap (clean_of ρ used ρ result) rl ∙ ap (λ z. clean_of ρ z ρ result (φ * ρ * ρ)) we in
-      rw (ge, uf, ef, rf, sf, de)
+-- the slots of classes, written register by register
+pub ruleset lowered = (lowered_none, lowered_more, lowered_all)
 
 -- ---- windows that are the same
 
@@ -249,18 +149,6 @@ module _ (ρ φ : ℕ) where
       let ef = masks_decided ρ v.ever w.ever (φ * ρ) e f.ever g.ever ee in
       let mf = marks_decided ρ v.mark w.mark ρ m f.mark g.mark me in
       rw (cf, uf, rf, ef, mf, alike_decided ρ v.infeasible w.infeasible)
-
-  -- the answers of `represents`, one each
-  pub never : (v w : Window) → false ≡ true → v ≡ w
-  never v w e = cc
-
-  pub wide_count : (v : Window) (w : Slots) (n : ℕ) → ρ < n → false ≡ represents_of ρ φ v w n
-  unfolding represents_of
-  wide_count v w n h = rw (lt-ltb ρ n h)
-
-  pub irregular : (v : Window) (w : Slots) (n : ℕ) → n ≤ ρ → regular_of ρ φ w n ≡ false → false ≡ represents_of ρ φ v w n
-  unfolding represents_of
-  irregular v w n h e = rw (le-ltb ρ n h, e)
 
   pub compared : (v u : Window) (w : Slots) (n : ℕ) (b : Bool) → n ≤ ρ → regular_of ρ φ w n ≡ true → u ≡ window_of ρ φ w → b ≡ same_window ρ φ v u
       → b ≡ represents_of ρ φ v w n

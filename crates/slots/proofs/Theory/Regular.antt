@@ -69,7 +69,8 @@ module _ (ρ : ℕ) where
       or_small ρ (members_of ρ slot n s k) (cond (ltb k n && eqb (slot_of slot k) s) (2 ^ k) 0) (members_small slot n s k (omega arith))
       (by_test (ltb k n && eqb (slot_of slot k) s) (λ t. rw t (pow_small ρ k (omega arith))) (λ t. rw t (none_small ρ)))
 
-  grouped_at : (slot regs : List ℕ) (n k : ℕ) → T (grouped_of ρ slot regs n k) → (j : ℕ) → j < k → (slot_of slot j < ρ) × (get_or regs j 0 ≡ members_of ρ slot n j ρ)
+  grouped_at : (slot regs : List ℕ) (n k : ℕ) → T (grouped_of ρ slot regs n k) → (j : ℕ) → j < k
+      → (slot_of slot j < ρ) × (get_or regs j 0 ≡ members_of ρ slot n j ρ)
   unfolding grouped_of
   grouped_at slot regs n zero t j b = absurd (omega arith)
   grouped_at slot regs n (suc k) t j b =

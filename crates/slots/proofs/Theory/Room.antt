@@ -74,7 +74,8 @@ free_is regs (suc k) i = by_test (eqb (get_or regs i 0) 0)
 -- a mask that is not empty has a register
 pub some_in : (ρ m : ℕ) → m < 2 ^ ρ → m ≢ 0 → (c : ℕ) × (c < ρ) × T (has m c)
 some_in ρ m b n = ⊎_elim (λ l. (least_in ρ m, l, truth (has m (least_in ρ m)) (least-in ρ m l)))
-    (λ l. absurd (n (bits_same ρ m 0 b (none_small ρ) (λ i h. bit_same m 0 i (least_below ρ m i (omega arith) ∙ sym (none_zero i)))))) (less_or (least_in ρ m) ρ)
+    (λ l. absurd (n (bits_same ρ m 0 b (none_small ρ) (λ i h. bit_same m 0 i (least_below ρ m i (omega arith) ∙ sym (none_zero i))))))
+    (less_or (least_in ρ m) ρ)
 
 module _ (ρ n : ℕ) (slot regs : List ℕ) (k : Grouped ρ n slot regs) where
   -- a slot with no registers is free

@@ -205,7 +205,8 @@ module _ (ρ φ : ℕ) where
           )))
 
       ever-recorded : (h s t : ℕ) → s < ρ
-          → T (has (get_or (ever_recorded ρ f a b m e) (ρ * h + s) 0) t) ↔ (T (has (get_or e (ρ * h + s) 0) t) ⊎ ((a ≢ m) × (b ≢ m) × (h ≡ f) × (s ≡ a) × (t ≡ b)))
+          → T (has (get_or (ever_recorded ρ f a b m e) (ρ * h + s) 0) t)
+          ↔ (T (has (get_or e (ρ * h + s) 0) t) ⊎ ((a ≢ m) × (b ≢ m) × (h ≡ f) × (s ≡ a) × (t ≡ b)))
       unfolding ever_recorded
       ever-recorded h s t sb = by_test (eqb a m || eqb b m)
           (λ q. rw q ((λ k. inl k), (λ k. ⊎_elim (λ o. o) (λ (i, j, _, _, _). absurd (some_of a b m q (i, j))) k)))

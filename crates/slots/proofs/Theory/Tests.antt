@@ -104,7 +104,8 @@ clash-slots : (l : List ℕ) (k : ℕ) → T (clash_slots l k) ↔ ((u : ℕ) ×
 unfolding clash_slots
 clash-slots l zero = ((λ t. absurd t), (λ (u, b, _). absurd (omega arith)))
 clash-slots l (suc k) = (
-  (λ t. ⊎_elim (λ q. let (u, b, p) = (clash-slots l k).0 q in (u, omega arith, p)) (λ q. (k, omega arith, q)) (or_e (clash_slots l k) (has (get_or l k 0) k) t)),
+  (λ t. ⊎_elim (λ q. let (u, b, p) = (clash-slots l k).0 q in (u, omega arith, p)) (λ q. (k, omega arith, q))
+      (or_e (clash_slots l k) (has (get_or l k 0) k) t)),
   (λ (u, b, t). ⊎_elim
       (λ e. or_r (clash_slots l k) (has (get_or l k 0) k) (subst (λ z. T (has (get_or l z 0) z)) e t))
       (λ e. or_l (clash_slots l k) (has (get_or l k 0) k) ((clash-slots l k).1 (u, omega arith, t)))

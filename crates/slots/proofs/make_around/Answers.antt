@@ -1,19 +1,9 @@
-use mathlib.Core.Path.{sym, ap₂, subst}
-use lib.Bits.{bit_or}
-use borrow.Author.Rules.{rules}
-use Rattle.base.proofs.Theory.Written.{written_none, written_more}
+use mathlib.Core.Path.{sym, subst}
 use Rattle.window.specs.Layout.{registers, functions}
 use Rattle.window.proofs.Theory.Table.{written_all}
 use Rattle.slots.specs.Around.{Around, around_of}
 use Rattle.slots.proofs.Theory.Around.{around_made}
 use Rattle.slots.proofs.make_around.Goals as goal
-
-pub loop-i-init : goal.loop-i-init
-loop-i-init c = written_none _ _ _ _ (search rules)
-
-pub loop-i-preserved : goal.loop-i-preserved
-loop-i-preserved c =
-    written_more _ _ _ _ _ _ c.loop-i.invariant c.loop-i-test.true (ap₂ bit_or c.results_at.ensures c.results_at-in-loop-i.ensures)
 
 pub returns-clause-value : goal.returns-clause-value
 unfolding around_of

@@ -1,15 +1,8 @@
 use mathlib.Core.Path.{refl}
 use borrow.Author.Rules.{rules}
 use Rattle.window.specs.Layout.{registers}
-use Rattle.window.proofs.Theory.Table.{swept_none}
 use Rattle.slots.proofs.Theory.Loops.{marks_more, marks_all}
 use Rattle.slots.proofs.mark_slots.Goals as goal
-
-pub loop-r-init : goal.loop-r-init
-loop-r-init c = swept_none _ _ _
-
-pub holds-requires : goal.holds-requires
-holds-requires c = c.requires.below _ c.loop-r-test.true
 
 pub loop-r-preserved : goal.loop-r-preserved
 loop-r-preserved c =

@@ -1,12 +1,8 @@
 use mathlib.Core.Path.{refl}
 use borrow.Author.Rules.{rules}
 use Rattle.window.specs.Layout.{registers}
-use Rattle.window.proofs.Theory.Table.{swept_none}
 use Rattle.slots.proofs.Theory.Loops.{renamed_more, renamed_all}
 use Rattle.slots.proofs.rename_slot.Goals as goal
-
-pub loop-s-init : goal.loop-s-init
-loop-s-init c = swept_none _ _ _
 
 pub loop-s-preserved : goal.loop-s-preserved
 loop-s-preserved c = renamed_more registers _ _ _ (search rules) _ _ _ _ _ refl refl c.loop-s.invariant c.loop-s-test.true (search rules)

@@ -4,7 +4,6 @@ use borrow.Author.Rules.{rules}
 use Rattle.std.proofs.lemmas.Slice.Eq.{slice_eq-Decides}
 use Rattle.std.specs.Cmp.{booleans_Decides}
 use Rattle.std.proofs.lemmas.Bool.Decides.{Decides-eqb}
-use Rattle.window.specs.declared.Window.{Window}
 use Rattle.slots.proofs.Theory.Pulls.{Long, same-window, window_compared}
 use Rattle.slots.proofs.same_window.Goals as goal
 

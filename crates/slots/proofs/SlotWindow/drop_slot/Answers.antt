@@ -1,8 +1,6 @@
-use mathlib.Core.Path.{ap, ◌∙◌}
+use mathlib.Core.Path.{◌∙◌}
 use borrow.Author.Rules.{rules}
 use Rattle.window.specs.Layout.{registers, functions}
-use Rattle.slots.specs.Slots.{Slots}
-use Rattle.slots.specs.Performing.{dropped_slots}
 use Rattle.slots.proofs.Theory.Loops.{dropped_is}
 use Rattle.slots.proofs.Theory.Around.{lost_around}
 use Rattle.slots.proofs.Theory.Keeping.{kept_same, kept_dropped}
@@ -17,12 +15,3 @@ invariant_of-self c =
     let dropped = dropped_is registers functions i.slot i.regs i.unequal i.result i.ever _ _ _ i.mark _ i.infeasible a.s a.more _ lost c.mark_slots.ensures
     c.forget_masks.ensures c.drop_results.ensures c.forget_masks-2.ensures in
     kept_same registers functions _ _ _ _ dropped c.drop_results-2.ensures (kept_dropped registers functions _ _ k a.s a.more)
-
-pub returns : goal.returns
-returns c =
-    let a = c.args in
-    let i = c.self.inside in
-    let lost = c.lost_slots.ensures ∙ lost_around registers functions _ _ c.self.invariant.around _ _ c.requires (search rules) in
-    dropped_is registers functions i.slot i.regs i.unequal i.result i.ever _ _ _ i.mark _ i.infeasible a.s a.more _ lost c.mark_slots.ensures
-    c.forget_masks.ensures c.drop_results.ensures c.forget_masks-2.ensures
-    ∙ ap (λ (v : Slots). dropped_slots registers functions v a.s a.more) c.self.view_is

@@ -4,4 +4,4 @@ use Rattle.slots.specs.Performing.{grouped_of}
 use Rattle.slots.proofs.SlotWindow.grouped.Given as goal
 
 abbrev pub invariant-loop-s : goal.invariant-loop-s
-invariant-loop-s l = l.fine ≡ grouped_of registers l.self.slot l.self-inside.regs l.count l.s
+invariant-loop-s l = l.fine ≡ grouped_of registers l.self.slot l.self.regs l.count l.s

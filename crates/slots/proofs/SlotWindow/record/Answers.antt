@@ -28,5 +28,5 @@ pub returns : goal.returns
 returns c =
     let a = c.args in
     let i = c.self.inside in
-    recorded_is registers functions (slots_of i.slot i.regs i.unequal i.result i.ever i.mark i.infeasible) a.x a.f a.a a.b a.n _ _ c.if-a-n.false c.single.ensures c.single-2.ensures
-    ∙ ap (λ (v : Slots). recorded_slots registers functions v a.x a.f a.a a.b a.n) c.self.view_is
+    recorded_is registers functions (slots_of i.slot i.regs i.unequal i.result i.ever i.mark i.infeasible) a.x a.f a.a a.b a.n _ _ c.if-a-n.false
+    c.single.ensures c.single-2.ensures ∙ ap (λ (v : Slots). recorded_slots registers functions v a.x a.f a.a a.b a.n) c.self.view_is
