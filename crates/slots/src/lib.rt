@@ -122,6 +122,9 @@ impl SlotWindow {
 
 // ---- a slot without registers
 
+// What works on one table of a window in slots is a function on that table: `drop_slot` and `merge` lend it several, and on the way what the type
+// promises of the tables together does not hold.
+
 // In a table of results, slot s is no argument and holds none.
 #[tactic(auto, unfolding(crate::specs::Performing::results_dropped))]
 fn drop_results(t: &mut [Mask], s: usize)
@@ -159,8 +162,8 @@ fn beside(around: &[Mask; PAIRS], s: usize) -> Mask
     m
 }
 
-// The slots of the seed and those that have one of them above. Two passes a turn, with one comparison for both; a function of its own, so that
-// it is compiled into its caller.
+// The slots of the seed and those that have one of them above. Two passes a turn, with one comparison for both; a function of its own beside
+// `window`'s, which has one pass a turn and would be called and not compiled into its caller: the bar of speed of long traces (PERFORMANCE.md).
 fn raised(up: &[Mask; REGISTERS], seed: Mask) -> Mask
     ensures { result ≡ raised_of registers up.now seed }
 {
