@@ -1,7 +1,6 @@
-pub mod Held
 pub mod Outcome
 pub mod TableLaws
-pub mod Redirect
+pub mod RangeLaws
 pub mod OutcomeLaws
-pub mod CodeLaws
+pub mod Redirect
 pub mod CycleLaws

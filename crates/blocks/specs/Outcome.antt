@@ -1,7 +1,9 @@
 -- What a reader of statements leaves.
-use Rattle.std.specs.Prelude.{◌≡◌, ℕ, suc, ◌+◌, ◌*◌, ◌-◌, ◌≤◌, ◌<◌, true, false, List, [], ◌∷◌, ◌++◌, map, ltb, leb, length}
+use Rattle.std.specs.Prelude.{◌≡◌, ℕ, suc, ◌+◌, ◌*◌, ◌-◌, ◌≤◌, ◌<◌, true, false, List, [], ◌∷◌, ◌++◌, map, ltb, leb, length, get_or, set}
+use Rattle.std.specs.Prelude.{Option, Some, None}
 use Rattle.base.specs.Choice.{pick}
 use Rattle.letters.specs.declared.Letter.{Letter}
+use Rattle.letters.specs.declared.reasons.Refused.{Refused}
 use Rattle.macros.specs.Points.{compile_else, compile_block}
 use Rattle.tokens.specs.declared.Token.{Token}
 use Rattle.tokens.specs.Tokens.{token_at}
@@ -10,59 +12,57 @@ use Rattle.grammar.specs.Limits.{most_points}
 use Rattle.grammar.specs.Tree.{Statement, Else, Block, if, while}
 use Rattle.grammar.specs.Expanded.{expanded_statement, expanded_else, expanded_block}
 use Rattle.grammar.specs.Reading.{Got, got, exhausted, and_then, condition, braces_t, else_t, block, statement}
-use Rattle.phrases.specs.Codes.{Few}
-use Rattle.phrases.specs.declared.GotNumber as number
-use Rattle.phrases.specs.declared.GotLetter as letter
-use Rattle.phrases.specs.declared.GotCondition as held
-use Rattle.blocks.specs.Held.{step_kind, point, held_point, Progress, HoldsPoints, unknown, backpatched, too_many}
+use Rattle.phrases.specs.Codes.{refused_as}
+use Rattle.phrases.specs.declared.Condition.{Condition}
+use Rattle.blocks.specs.Held.{point, held_point, Progress, progress, HoldsPoints, unknown, too_many, unused_point}
+use Rattle.blocks.specs.declared.PointKind.{PointKind}
+use Rattle.blocks.specs.declared.PointKind.TheVariants.{Step}
 use Rattle.blocks.specs.declared.PointEntry.{PointEntry}
+use Rattle.blocks.specs.declared.points.Points.{Points}
 
 -- Read, on to the place e, with the points ps more; in front of them and behind them stand the points that were lent.
--- Free are two things: what the arrays hold once there are more than the most points, of which no macro is made, and which of a point's codes stands for it.
+-- Free is one thing: what the table holds once there are more than the most points, of which no macro is made.
 pub record Fine (st r : Progress) (ps : List PointEntry) (e : ℕ) : Type 0 where
   pub ok : r.ok ≡ true
-  pub number : r.number ≡ 0
-  pub place : r.place ≡ 0
+  pub refusal : r.refusal ≡ None
   pub at : r.at ≡ e
   pub low : st.count + length ps ≤ most_points → r.count ≡ st.count + length ps
   pub high : most_points < st.count + length ps → r.count ≡ too_many
   pub laid : (old ds : List PointEntry) → HoldsPoints old st ds → length ds + length ps ≤ most_points → HoldsPoints old r (ds ++ ps)
 
--- Refused by a number, at a place. Free is one thing: what the arrays hold, which no one reads beside a refusal.
-pub record RefusedAt (r : Progress) (n p : ℕ) : Type 0 where
+-- Refused. Free is one thing: what the table holds, which no one reads beside a refusal.
+pub record RefusedAs (r : Progress) (e : Refused) : Type 0 where
   pub ok : r.ok ≡ false
-  pub number : r.number ≡ n
-  pub place : r.place ≡ p
+  pub refusal : r.refusal ≡ Some e
   pub at : r.at ≡ 0
   pub count : r.count ≡ 0
 
 -- The state r, reached from st, is what was read; `code` gives its points, numbered from a number on.
 abbrev pub ReadAs : {A : Type 0} → (A → ℕ → List PointEntry) → Progress → Progress → Got A → Type 0
 ReadAs code st r (got a e) = Fine st r (code a st.count) e
-ReadAs code st r (Got.refused n p) = RefusedAt r n p
+ReadAs code st r (Got.refused n p) = RefusedAs r (refused_as n p)
 ReadAs code st r exhausted = ⊥
 
 -- a point of which it is not yet known what follows
-abbrev pub waiting : ℕ → Letter → PointEntry
+abbrev pub waiting : PointKind → Letter → PointEntry
 waiting k l = point k l unknown 0
 
 -- the point numbered `base` that applies a named test: the test's point follows
 abbrev pub applying : Letter → ℕ → PointEntry
-applying a base = point step_kind a (base + 1) 0
+applying a base = point Step a (base + 1) 0
 
--- the same of an answer as code holds it: with a point more, with the points of a condition, of which the test's is of kind k, and with none
-abbrev pub Settled : Progress → Progress → letter.GotLetter → Type 0
-Settled st r (letter.TheVariants.At l e) = Fine st r (waiting step_kind l ∷ []) e
-Settled st r (letter.TheVariants.Refused n p) = RefusedAt r n p
+-- the point that performs a letter before the test, if there is one
+abbrev pub leading : Option Letter → ℕ → List PointEntry
+leading None base = []
+leading (Some a) base = applying a base ∷ []
 
-abbrev pub Weighed : ℕ → Progress → Progress → held.GotCondition → Type 0
-Weighed k st r (held.TheVariants.Compared l e) = Fine st r (waiting k l ∷ []) e
-Weighed k st r (held.TheVariants.Named a l e) = Fine st r (applying a st.count ∷ waiting k l ∷ []) e
-Weighed k st r (held.TheVariants.Refused n p) = RefusedAt r n p
+-- the points of a condition as the code holds it, of which the test's is of kind k
+abbrev pub condition_points : PointKind → Condition → ℕ → List PointEntry
+condition_points k c base = leading c.application base ++ waiting k c.test ∷ []
 
-abbrev pub Passed : Progress → Progress → number.GotNumber → Type 0
-Passed st r (number.TheVariants.At v e) = Fine st r [] e
-Passed st r (number.TheVariants.Refused n p) = RefusedAt r n p
+-- the points ps were added to a table, wherever reading stands
+abbrev pub Adds : Points → Points → List PointEntry → Type 0
+Adds old new ps = (at e : ℕ) → Fine (progress at old) (progress e new) ps e
 
 -- ---- the points of what was read, where what follows is not yet known
 
@@ -78,10 +78,6 @@ block_code n b base = map held_point (compile_block (expanded_block n b) base un
 
 -- ---- changes to the table
 
--- entry i of a list of what follows, with f for what is not yet known if it is in the range
-abbrev pub backpatched_in : ℕ → ℕ → ℕ → ℕ → ℕ → ℕ
-backpatched_in from to f i n = pick (ltb i from) (λ _. n) λ _. pick (ltb i to) (λ _. backpatched f n) λ _. n
-
 -- where the points in a range begin; at what follows if there are none
 abbrev pub begins : ℕ → ℕ → ℕ → ℕ
 begins from to follow = pick (ltb from to) (λ _. from) λ _. follow
@@ -90,11 +86,11 @@ begins from to follow = pick (ltb from to) (λ _. from) λ _. follow
 abbrev pub changed_to : {A : Type 0} → ℕ → ℕ → A → A → A
 changed_to count n new old = pick (ltb most_points count) (λ _. old) λ _. pick (leb count n) (λ _. old) λ _. new
 
--- ---- what each reader of statements asks, and what it ensures
+-- point n, followed by a and b
+abbrev pub forked : List PointEntry → ℕ → ℕ → ℕ → List PointEntry
+forked ps n a b = set ps n (point (get_or ps n unused_point).kind (get_or ps n unused_point).letter a b)
 
-pub record ReaderReady (rs fs ns : List ℕ) (m count : ℕ) : Type 0 where
-  pub few : Few rs fs ns m
-  pub counted : count ≤ too_many
+-- ---- what each reader of statements ensures
 
 module _ (s rs fs ns : List ℕ) (m d : ℕ) where
   -- calls enough for the bytes left

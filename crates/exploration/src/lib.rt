@@ -13,7 +13,7 @@ ghost use Rattle.records.specs.Records.{record_bytes};
 ghost use Rattle.table.specs.Table.{window_at};
 ghost use Rattle.index.specs.Index.{IndexedPairs};
 
-use blocks::{CHECK, MOST_POINTS, PointEntry, STEP};
+use blocks::{MOST_POINTS, PointEntry, PointKind};
 use index::Index;
 use letters::{Header, Letter};
 use window::Window;
@@ -59,22 +59,30 @@ fn choose(point: PointEntry, b: usize) -> PointMove
     ensures { result ≡ move_of point b }
 {
     let letter = point.letter;
-    if point.kind == STEP {
-        if b == 0 {
-            return PointMove::Goes(letter, point.first as usize);
+    let first = PointMove::Goes(letter, point.first as usize);
+    match point.kind {
+        PointKind::Step => {
+            if b == 0 {
+                first
+            } else {
+                PointMove::Nothing
+            }
         }
-        return PointMove::Nothing;
-    }
-    if point.kind == CHECK {
-        if b == 0 {
-            return PointMove::Fails(opposite(letter));
+        PointKind::Check => {
+            if b == 0 {
+                PointMove::Fails(opposite(letter))
+            } else {
+                first
+            }
         }
-        return PointMove::Goes(letter, point.first as usize);
+        PointKind::Fork => {
+            if b == 0 {
+                first
+            } else {
+                PointMove::Goes(opposite(letter), point.second as usize)
+            }
+        }
     }
-    if b == 0 {
-        return PointMove::Goes(letter, point.first as usize);
-    }
-    PointMove::Goes(opposite(letter), point.second as usize)
 }
 
 /// The letter that branch b of a point performs; where it performs none, the copy of register 0 to itself.

@@ -1,52 +1,55 @@
 -- How the code holds what it read.
-use Rattle.std.specs.Prelude.{◌≡◌, ℕ, ◌≤◌, Bool, true, false, List, eqb, length, get_or}
+use Rattle.std.specs.Prelude.{◌≡◌, ℕ, ◌≤◌, Bool, true, false, List, eqb, length, get_or, Result, Ok, Err, Some, None}
 use Rattle.std.proofs.Math.Option.{Option, none, some}
 use Rattle.base.specs.Choice.{pick}
 use Rattle.letters.specs.Editions.{most_registers, most_functions}
+use Rattle.letters.specs.MacroRefusalNumbers.{token_malformed, grammar_violated}
+use Rattle.letters.specs.Reasons.{reason_of}
 use Rattle.letters.specs.declared.Letter.{Letter}
 use Rattle.letters.specs.declared.Letter.TheVariants.{Apply, Equal, Unequal}
+use Rattle.letters.specs.declared.reasons.Refused.{Refused}
 use Rattle.macros.specs.Tree.{test}
+use Rattle.tokens.specs.declared.Token.{Token}
 use Rattle.tokens.specs.Tokens.{token_at}
 use Rattle.tokens.specs.Words as word
 use Rattle.grammar.specs.Tree.{Condition, holds, fails}
 use Rattle.grammar.specs.Expanded.{application, comparison}
 use Rattle.grammar.specs.Reading as reading
-use Rattle.phrases.specs.declared.GotNumber as held
-use Rattle.phrases.specs.declared.GotLetter.{GotLetter}
-use Rattle.phrases.specs.declared.GotLetter.TheVariants as letter
-use Rattle.phrases.specs.declared.GotCondition.{GotCondition}
-use Rattle.phrases.specs.declared.GotCondition.TheVariants as condition
+use Rattle.phrases.specs.declared.Condition as held
+use Rattle.phrases.specs.declared.Sign.{Sign}
+use Rattle.phrases.specs.declared.Sign.TheVariants as sign
 
--- An answer whose value is held as a number. (`exhausted` is no answer of these readers.)
-abbrev pub coded : {A : Type 0} → (A → ℕ) → reading.Got A → held.GotNumber
-coded f (reading.got a e) = held.TheVariants.At (f a) e
-coded f (reading.refused n p) = held.TheVariants.Refused n p
-coded f reading.exhausted = held.TheVariants.Refused 0 0
+-- a refusal by its number and its place
+abbrev pub refused_as : ℕ → ℕ → Refused
+refused_as n p = record { reason = reason_of n; place = p }
 
-abbrev pub plain : reading.Got ℕ → held.GotNumber
+-- that of a token that does not fit the grammar, or is none
+abbrev pub unfit : Token → Refused
+unfit t = refused_as (pick (eqb t.key word.wrong) (λ _. token_malformed) λ _. grammar_violated) t.start
+
+-- An answer as the code holds it, by what it holds of a value and the place after it. (`exhausted` is no answer of these readers.)
+abbrev pub read_as : {A B : Type 0} → (A → ℕ → B) → reading.Got A → Result B Refused
+read_as f (reading.got a e) = Ok (f a e)
+read_as f (reading.refused n p) = Err (refused_as n p)
+read_as f reading.exhausted = Err (refused_as 0 0)
+
+-- An answer whose value is held as another, with the place after it.
+abbrev pub coded : {A B : Type 0} → (A → B) → reading.Got A → Result (B × ℕ) Refused
+coded f g = read_as (λ a e. (f a, e)) g
+
+abbrev pub plain : reading.Got ℕ → Result (ℕ × ℕ) Refused
 plain g = coded (λ n. n) g
 
-abbrev pub without_value : reading.Got (Unit {0}) → held.GotNumber
-without_value g = coded (λ _. 0) g
+-- An answer with no value is held as the place after it.
+abbrev pub without_value : reading.Got (Unit {0}) → Result ℕ Refused
+without_value g = read_as (λ _ e. e) g
 
 -- An answer whose value is held as a letter.
-abbrev pub lettered : {A : Type 0} → (A → Letter) → reading.Got A → GotLetter
-lettered f (reading.got a e) = letter.At (f a) e
-lettered f (reading.refused n p) = letter.Refused n p
-lettered f reading.exhausted = letter.Refused 0 0
+abbrev pub lettered : {A : Type 0} → (A → Letter) → reading.Got A → Result (Letter × ℕ) Refused
+lettered f g = coded f g
 
 abbrev pub same_letter : Letter → Letter
 same_letter l = l
-
--- a refusal, where a letter was to be read
-abbrev pub carried : held.GotNumber → GotLetter
-carried (held.TheVariants.At v e) = letter.Refused 0 0
-carried (held.TheVariants.Refused n p) = letter.Refused n p
-
--- a letter, on to the place that was read
-abbrev pub letter_then : Letter → held.GotNumber → GotLetter
-letter_then l (held.TheVariants.At v e) = letter.At l e
-letter_then l (held.TheVariants.Refused n p) = letter.Refused n p
 
 -- ---- conditions
 
@@ -54,43 +57,33 @@ letter_then l (held.TheVariants.Refused n p) = letter.Refused n p
 abbrev pub test_of : ℕ → Condition → Letter
 test_of n c = test (comparison n c)
 
--- a condition that was read, by the letter that it performs before its test, if there is one, and its test
-abbrev pub posed : Option Letter → Letter → ℕ → GotCondition
-posed none l e = condition.Compared l e
-posed (some a) l e = condition.Named a l e
+-- a condition by the letter that it performs before its test, if there is one, and its test
+abbrev pub posed : Option Letter → Letter → held.Condition
+posed none l = record { application = None; test = l }
+posed (some a) l = record { application = Some a; test = l }
+
+-- a condition as the code holds it, behind n declared registers
+abbrev pub held_condition : ℕ → Condition → held.Condition
+held_condition n c = posed (application n c) (test_of n c)
 
 -- An answer whose value is a condition, behind n declared registers.
-abbrev pub asked : ℕ → reading.Got Condition → GotCondition
-asked n (reading.got c e) = posed (application n c) (test_of n c) e
-asked n (reading.refused m p) = condition.Refused m p
-asked n reading.exhausted = condition.Refused 0 0
+abbrev pub asked : ℕ → reading.Got Condition → Result (held.Condition × ℕ) Refused
+asked n g = coded (held_condition n) g
 
--- a test that was read, and an application that was read with its test, as conditions
-abbrev pub as_comparison : GotLetter → GotCondition
-as_comparison (letter.At l e) = condition.Compared l e
-as_comparison (letter.Refused n p) = condition.Refused n p
+-- the sign that stands for `=` or `!=`
+abbrev pub sign_of : Bool → Sign
+sign_of true = sign.Equal
+sign_of false = sign.Unequal
 
-abbrev pub as_named : Letter → GotLetter → GotCondition
-as_named c (letter.At l e) = condition.Named l c e
-as_named c (letter.Refused n p) = condition.Refused n p
-
--- a sign, `=` or `!=`, as a number, and the test that it makes
-abbrev pub equal_sign : ℕ
-equal_sign = 1
-
-abbrev pub unequal_sign : ℕ
-unequal_sign = 0
-
-abbrev pub kind : Bool → ℕ
-kind true = equal_sign
-kind false = unequal_sign
-
-abbrev pub comparing : ℕ → ℕ → ℕ → Letter
-comparing q x y = pick (eqb q equal_sign) (λ _. Equal x y) λ _. Unequal x y
+-- the test that a sign makes
+abbrev pub comparing : Sign → ℕ → ℕ → Letter
+comparing sign.Equal x y = Equal x y
+comparing sign.Unequal x y = Unequal x y
 
 -- and the condition that it makes of a named test: `=`, that the test holds
-abbrev pub condition_by : ℕ → ℕ → ℕ → ℕ → Condition
-condition_by q f y z = pick (eqb q equal_sign) (λ _. holds f y z) λ _. fails f y z
+abbrev pub condition_by : Sign → ℕ → ℕ → ℕ → Condition
+condition_by sign.Equal f y z = holds f y z
+condition_by sign.Unequal f y z = fails f y z
 
 -- the declared names fit their tables, and there are the functions below number m
 pub record Few (rs fs ns : List ℕ) (m : ℕ) : Type 0 where

@@ -1,15 +1,13 @@
 -- How the code holds what reading a text gives: the macro in a struct, or the refusal.
-use Rattle.std.specs.Prelude.{ℕ, ◌+◌, ◌*◌, ◌-◌, true, false, List, [], ◌++◌, map, eqb, length, replicate}
-use Rattle.base.specs.Choice.{pick}
+use Rattle.std.specs.Prelude.{ℕ, ◌+◌, ◌*◌, ◌-◌, List, [], ◌++◌, map, length, replicate, Result}
 use Rattle.letters.specs.Editions.{most_registers, most_functions}
-use Rattle.letters.specs.MacroRefusalNumbers.{token_malformed, grammar_violated}
+use Rattle.letters.specs.declared.reasons.Refused.{Refused}
 use Rattle.macros.specs.Points.{points, size_block}
-use Rattle.tokens.specs.Words as word
 use Rattle.tokens.specs.Tokens.{token_at}
-use Rattle.tokens.specs.declared.Token.{Token}
 use Rattle.grammar.specs.Limits.{deepest_nesting}
 use Rattle.grammar.specs.Grammar.{Macro, header_of, shown_registers, expanded}
 use Rattle.grammar.specs.Reading.{Got, got, exhausted, and_then, block, functions_t, tests_t, macro_read, finish_t, count_t}
+use Rattle.phrases.specs.Codes.{read_as}
 use Rattle.blocks.specs.Held.{point_table, held_point}
 use Rattle.syntax.specs.declared.CompiledMacro as held
 use Rattle.syntax.specs.declared.MacroRead.{MacroRead}
@@ -47,33 +45,17 @@ held_reading (got m e) = record { refusal = 0; place = 0; program = held_macro m
 held_reading (Got.refused n p) = record { refusal = n; place = p; program = no_macro }
 held_reading exhausted = record { refusal = 0; place = 0; program = no_macro }
 
+-- the same with a reason for the number of a refusal
+abbrev pub held_answer : Got Macro → Result held.CompiledMacro Refused
+held_answer g = read_as (λ m _. held_macro m) g
+
 -- ---- declarations on the way
 
-unfoldable pub held_registers : Got (List ℕ) → Registers
-held_registers (got rs e) = record { ok = true; number = 0; place = 0; at = e; count = length rs; names = padded most_registers rs }
-held_registers (Got.refused n p) = record { ok = false; number = n; place = p; at = 0; count = 0; names = replicate most_registers 0 }
-held_registers exhausted = record { ok = false; number = 0; place = 0; at = 0; count = 0; names = replicate most_registers 0 }
+abbrev pub held_registers : List ℕ → ℕ → Registers
+held_registers rs e = record { at = e; count = length rs; names = padded most_registers rs }
 
-abbrev pub no_functions : ℕ → ℕ → Functions
-no_functions n p =
-    record { ok = false; number = n; place = p; at = 0; count = 0; names = replicate most_functions 0; arities = replicate most_functions 0 }
-
-unfoldable pub held_functions : Got (List ℕ × List ℕ) → Functions
-held_functions (got r e) = record {
-  ok = true;
-  number = 0;
-  place = 0;
-  at = e;
-  count = length r.0;
-  names = padded most_functions r.0;
-  arities = padded most_functions r.1;
-}
-held_functions (Got.refused n p) = no_functions n p
-held_functions exhausted = no_functions 0 0
-
--- the number by which a token that does not fit is refused
-abbrev pub refused_token_number : Token → ℕ
-refused_token_number t = pick (eqb t.key word.wrong) (λ _. token_malformed) λ _. grammar_violated
+abbrev pub held_functions : List ℕ × List ℕ → ℕ → Functions
+held_functions r e = record { at = e; count = length r.0; names = padded most_functions r.0; arities = padded most_functions r.1 }
 
 -- ---- the rest of the reading, from each step on
 

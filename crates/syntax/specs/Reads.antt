@@ -1,7 +1,6 @@
 -- The reader's contract (SPEC 8, 11.3).
 use Rattle.std.specs.Prelude.{◌≡◌, ◌≢◌, ℕ, List}
 use Rattle.grammar.specs.Grammar.{Macro}
-use Rattle.grammar.specs.Reading.{Got}
 use Rattle.refusals.specs.Order.{Refusal}
 use Rattle.refusals.specs.Accepted.{Accepted}
 use Rattle.syntax.specs.declared.MacroRead.{MacroRead}

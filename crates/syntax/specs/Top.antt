@@ -1,5 +1,5 @@
 -- The reader's last steps: what it holds when declarations and block are read.
-use Rattle.std.specs.Prelude.{◌≡◌, ℕ, ◌+◌, ◌-◌, ◌≤◌, ◌<◌, true, List, ◌++◌, eqb, ltb, take, drop, replicate}
+use Rattle.std.specs.Prelude.{◌≡◌, ℕ, ◌+◌, ◌-◌, ◌≤◌, ◌<◌, List, ◌++◌, eqb, ltb, take, drop, replicate, Result}
 use Rattle.base.specs.Choice.{pick}
 use Rattle.letters.specs.Editions.{most_registers, most_functions}
 use Rattle.letters.specs.declared.Header.{Header}
@@ -14,10 +14,10 @@ use Rattle.grammar.specs.Spelled.{entry_length, spelled_registers, spelled_funct
 use Rattle.blocks.specs.Held.{unused_point, Progress, HoldsPoints, too_many}
 use Rattle.blocks.specs.Outcome.{block_code}
 use Rattle.blocks.specs.declared.PointEntry.{PointEntry}
-use Rattle.blocks.specs.declared.ReaderState.{ReaderState}
-use Rattle.syntax.specs.Answer.{padded, held_reading, end_from}
+use Rattle.letters.specs.declared.reasons.Refused.{Refused}
+use Rattle.syntax.specs.Answer.{padded, held_answer, end_from}
 use Rattle.syntax.specs.Lists.{NamesPadded}
-use Rattle.syntax.specs.declared.MacroRead.{MacroRead}
+use Rattle.syntax.specs.declared.CompiledMacro.{CompiledMacro}
 use Rattle.syntax.specs.declared.Registers.{Registers}
 use Rattle.syntax.specs.declared.Functions.{Functions}
 
@@ -55,15 +55,12 @@ pub record BlockEnded (n : ℕ) (body : Progress) (b : Block) : Type 0 where
   pub low : size_block (expanded_block n b) ≤ most_points → HoldsPoints empty_table body (block_code n b 0)
   pub high : most_points < size_block (expanded_block n b) → body.count ≡ too_many
 
-unfoldable pub Finishes : List ℕ → Registers → Functions → ℕ → Progress → MacroRead → Type 0
-Finishes s rs fs m body r = (b : Block) → BlockEnded rs.count body b → r ≡ held_reading (end_from s (macro_of s rs fs m b) body.at)
+unfoldable pub Finishes : List ℕ → Registers → Functions → ℕ → Progress → Result CompiledMacro Refused → Type 0
+Finishes s rs fs m body r = (b : Block) → BlockEnded rs.count body b → r ≡ held_answer (end_from s (macro_of s rs fs m b) body.at)
 
 -- "16 .. when more than six registers were declared": where a line of tests stands, there is room for the hidden registers (document 02, request 4).
 abbrev pub RoomForHidden : Registers → Functions → ℕ → Type 0
 RoomForHidden rs fs m = m < fs.count → rs.count + hidden_registers ≤ most_registers
-
-abbrev pub reader_start : ℕ → ReaderState
-reader_start at = record { ok = true; number = 0; place = 0; at = at; count = 0 }
 
 -- ---- the mask of the functions of two arguments
 

@@ -6,24 +6,22 @@ ghost use Rattle.letters.specs.Editions.{most_registers, most_functions};
 ghost use Rattle.grammar.specs.Limits.{hidden_registers};
 ghost use Rattle.grammar.specs.Spelled.{line_length};
 ghost use Rattle.grammar.specs.Grammar.{binary_of};
-ghost use Rattle.grammar.specs.Reading.{Got, is_declared, listed_t, register_names as registersAt, line_from, functions_t, tests_t, arity_of};
+ghost use Rattle.grammar.specs.Reading.{is_declared, listed_t, register_names as registersAt, line_from, functions_t, tests_t, arity_of};
 ghost use Rattle.tokens.specs.Tokens.{token_at};
-ghost use Rattle.phrases.specs.Codes.{plain};
-ghost use Rattle.blocks.specs.Held.{held_by};
-ghost use Rattle.syntax.specs.Answer.{no_macro, held_reading, held_registers, held_functions, refused_token_number, body_from, tests_from, functions_from};
-ghost use Rattle.syntax.specs.Lists.{NamesPadded, refused_by};
+ghost use Rattle.grammar.proofs.Theory.Reading.{read_macro};
+ghost use Rattle.phrases.specs.Codes.{plain, read_as};
+ghost use Rattle.blocks.specs.Held.{progress};
+ghost use Rattle.syntax.specs.Answer.{no_macro, held_answer, held_reading, held_registers, held_functions, body_from, tests_from, functions_from};
+ghost use Rattle.syntax.specs.Lists.{NamesPadded};
 ghost use Rattle.syntax.specs.Reads.{Reads};
-ghost use Rattle.syntax.specs.Top.{RegistersPadded, FunctionsPadded, padded_registers, padded_functions, Finishes, headed, reader_start, arity_flag};
+ghost use Rattle.syntax.specs.Top.{RegistersPadded, FunctionsPadded, padded_registers, padded_functions, Finishes, headed, arity_flag};
 ghost use Rattle.syntax.specs.Top.{hidden_count, RoomForHidden, spelled_behind};
 
-use blocks::{Codes, POINT_SPACE, PointEntry, ReaderState, Successors};
+use blocks::{POINT_SPACE, PointEntry, Points};
 use letters::Header;
 use letters::limits::{MOST_FUNCTIONS, MOST_REGISTERS};
-use letters::refusal_numbers::{
-    DECLARATION_WRONG, GRAMMAR_VIOLATED, NO_ROOM_FOR_TESTS, POINTS_TOO_MANY, TEXT_TOO_LONG,
-    TOKEN_MALFORMED,
-};
-use phrases::GotNumber;
+use letters::reasons::{Reason, Refused};
+use phrases::Scope;
 use tokens::Token;
 
 /// The most bytes that a macro's text has.
@@ -77,15 +75,9 @@ pub struct MacroRead {
     pub program: CompiledMacro,
 }
 
-/// The registers that were read, or a refusal.
+/// The registers that were read.
 #[derive(Clone, Copy)]
 pub struct Registers {
-    /// Whether nothing was refused.
-    pub ok: bool,
-    /// The number of the refusal.
-    pub number: u8,
-    /// The place of the refusal.
-    pub place: usize,
     /// The place of the next byte.
     pub at: usize,
     /// How many there are.
@@ -94,15 +86,9 @@ pub struct Registers {
     pub names: [u64; MOST_REGISTERS],
 }
 
-/// The functions that were read, tests behind the others, with their arities, or a refusal.
+/// The functions that were read, tests behind the others, with their arities.
 #[derive(Clone, Copy)]
 pub struct Functions {
-    /// Whether nothing was refused.
-    pub ok: bool,
-    /// The number of the refusal.
-    pub number: u8,
-    /// The place of the refusal.
-    pub place: usize,
     /// The place of the next byte.
     pub at: usize,
     /// How many there are.
@@ -113,94 +99,47 @@ pub struct Functions {
     pub arities: [u8; MOST_FUNCTIONS],
 }
 
-// The number by which a token that does not fit the grammar is refused.
-fn unfit_number(t: Token) -> u8
-    ensures { result ≡ refused_token_number t }
-{
-    if t.key == tokens::WRONG {
-        return TOKEN_MALFORMED;
-    }
-    GRAMMAR_VIOLATED
-}
-
-fn no_registers(number: u8, place: usize) -> Registers
-    ensures { result ≡ held_registers (Got.refused number place) }
-{
-    Registers {
-        ok: false,
-        number: number,
-        place: place,
-        at: 0,
-        count: 0,
-        names: [0; MOST_REGISTERS],
-    }
-}
-
-fn no_functions(number: u8, place: usize) -> Functions
-    ensures { result ≡ held_functions (Got.refused number place) }
-{
-    Functions {
-        ok: false,
-        number: number,
-        place: place,
-        at: 0,
-        count: 0,
-        names: [0; MOST_FUNCTIONS],
-        arities: [0; MOST_FUNCTIONS],
-    }
-}
-
 // Whether no register of this name can be declared any more.
 fn is_register_taken(names: [u64; MOST_REGISTERS], count: usize, k: u64) -> bool
     requires { NamesPadded most_registers names count }
     ensures { result ≡ (eqb count most_registers || is_declared k (take count names)) }
 {
-    if count == MOST_REGISTERS {
-        return true;
-    }
-    phrases::is_known(&names[..count], k)
+    count == MOST_REGISTERS || phrases::is_known(&names[..count], k)
 }
 
 // Behind the last register.
-fn registers_end(names: [u64; MOST_REGISTERS], count: usize, t: Token) -> Registers
+fn registers_end(names: [u64; MOST_REGISTERS], count: usize, t: Token) -> Result<Registers, Refused>
     requires { NamesPadded most_registers names count }
-    ensures { result ≡ held_registers (listed_t [] (length (take count names)) (take count names) t) }
+    ensures { result ≡ read_as held_registers (listed_t [] (length (take count names)) (take count names) t) }
 {
-    if t.key == tokens::SEMICOLON {
-        if count == 0 {
-            return no_registers(GRAMMAR_VIOLATED, t.start);
-        }
-        return Registers {
-            ok: true,
-            number: 0,
-            place: 0,
+    if t.key == tokens::SEMICOLON && count != 0 {
+        return Ok(Registers {
             at: t.end,
-            count: count,
-            names: names,
-        };
+            count,
+            names,
+        });
     }
-    no_registers(unfit_number(t), t.start)
+    Err(phrases::unfitting(t))
 }
 
 // The names of registers, and `;`.
-fn read_registers(text: &[u8], from: usize) -> Registers
-    ensures { result ≡ held_registers (registersAt text.now most_registers [] from) }
+fn read_registers(text: &[u8], from: usize) -> Result<Registers, Refused>
+    ensures { result ≡ read_as held_registers (registersAt text.now most_registers [] from) }
 {
     let mut names = [0u64; MOST_REGISTERS];
     let mut count: usize = 0;
     let mut at = from;
     loop {
         let t = tokens::next(text, at);
-        if tokens::is_name(t.key) {
-            if is_register_taken(names, count, t.key) {
-                return no_registers(DECLARATION_WRONG, t.start);
-            }
-            names[count] = t.key;
-            count += 1;
-            at = t.end;
-        } else {
+        if !tokens::is_name(t.key) {
             return registers_end(names, count, t);
         }
+        if is_register_taken(names, count, t.key) {
+            return Err(Reason::DeclarationWrong.at(t.start as u64));
+        }
+        names[count] = t.key;
+        count += 1;
+        at = t.end;
     }
 }
 
@@ -209,41 +148,22 @@ fn is_function_taken(regs: &[u64], names: [u64; MOST_FUNCTIONS], count: usize, k
     requires { (length regs.now ≤ most_registers) × NamesPadded most_functions names count }
     ensures { result ≡ (eqb count most_functions || (is_declared k regs.now || is_declared k (take count names))) }
 {
-    if count == MOST_FUNCTIONS {
-        return true;
-    }
-    if phrases::is_known(regs, k) {
-        return true;
-    }
-    phrases::is_known(&names[..count], k)
+    count == MOST_FUNCTIONS || phrases::is_known(regs, k) || phrases::is_known(&names[..count], k)
 }
 
-// `/` and how many arguments.
-fn arity(text: &[u8], at: usize) -> GotNumber
+// `/` and how many arguments, and the place after that.
+fn arity(text: &[u8], at: usize) -> Result<(u8, usize), Refused>
     ensures { result ≡ plain (arity_of text.now at) }
 {
-    let slash = phrases::expect(text, tokens::SLASH, at);
-    let GotNumber::At(_, a) = slash else {
-        return slash;
-    };
+    let a = phrases::expect(text, tokens::SLASH, at)?;
     let t = tokens::next(text, a);
     if t.key == tokens::ONE {
-        return GotNumber::At(1, t.end);
+        return Ok((1, t.end));
     }
     if t.key == tokens::TWO {
-        return GotNumber::At(2, t.end);
+        return Ok((2, t.end));
     }
-    phrases::unfitting(t)
-}
-
-// The same refusal, where functions were to be read.
-fn refused_functions(g: GotNumber) -> Functions
-    ensures { result ≡ held_functions (refused_by g) }
-{
-    match g {
-        GotNumber::At(_, _) => no_functions(0, 0),
-        GotNumber::Refused(n, p) => no_functions(n, p),
-    }
+    Err(phrases::unfitting(t))
 }
 
 // Behind the last entry of a line, of which entry number `first` was the first.
@@ -253,115 +173,80 @@ fn functions_end(
     count: usize,
     first: usize,
     t: Token,
-) -> Functions
+) -> Result<Functions, Refused>
     requires { NamesPadded most_functions names count × NamesPadded most_functions arities count × (first ≤ count) }
-    ensures { result ≡ held_functions (listed_t [] (length (take count names) - first) (take count names, take count arities) t) }
+    ensures { result
+        ≡ read_as held_functions (listed_t [] (length (take count names) - first) (take count names, take count arities) t) }
 {
-    if t.key == tokens::SEMICOLON {
-        if count == first {
-            return no_functions(GRAMMAR_VIOLATED, t.start);
-        }
-        return Functions {
-            ok: true,
-            number: 0,
-            place: 0,
+    if t.key == tokens::SEMICOLON && count != first {
+        return Ok(Functions {
             at: t.end,
-            count: count,
-            names: names,
-            arities: arities,
-        };
+            count,
+            names,
+            arities,
+        });
     }
-    no_functions(unfit_number(t), t.start)
+    Err(phrases::unfitting(t))
 }
 
 // The entries of a line behind the functions that were read, and `;`.
-fn read_line(
-    text: &[u8],
-    regs: &[u64],
-    known: [u64; MOST_FUNCTIONS],
-    taking: [u8; MOST_FUNCTIONS],
-    first: usize,
-    from: usize,
-) -> Functions
-    requires { (length regs.now ≤ most_registers) × NamesPadded most_functions known first × NamesPadded most_functions taking first }
-    ensures { result ≡ held_functions (line_from text.now regs.now (take first known) (take first taking) from) }
+fn read_line(text: &[u8], regs: &[u64], known: Functions, from: usize) -> Result<Functions, Refused>
+    requires { (length regs.now ≤ most_registers) × FunctionsPadded known }
+    ensures { result
+        ≡ read_as held_functions (line_from text.now regs.now (take known.count known.names) (take known.count known.arities) from) }
 {
-    let mut names = known;
-    let mut arities = taking;
-    let mut count: usize = first;
+    let mut names = known.names;
+    let mut arities = known.arities;
+    let mut count: usize = known.count;
     let mut at = from;
     loop {
         let t = tokens::next(text, at);
-        if tokens::is_name(t.key) {
-            if is_function_taken(regs, names, count, t.key) {
-                return no_functions(DECLARATION_WRONG, t.start);
-            }
-            let g = arity(text, t.end);
-            let GotNumber::At(n, e) = g else {
-                return refused_functions(g);
-            };
-            names[count] = t.key;
-            arities[count] = n;
-            count += 1;
-            at = e;
-        } else {
-            return functions_end(names, arities, count, first, t);
+        if !tokens::is_name(t.key) {
+            return functions_end(names, arities, count, known.count, t);
         }
+        if is_function_taken(regs, names, count, t.key) {
+            return Err(Reason::DeclarationWrong.at(t.start as u64));
+        }
+        let (n, e) = arity(text, t.end)?;
+        names[count] = t.key;
+        arities[count] = n;
+        count += 1;
+        at = e;
     }
 }
 
 // Perhaps a line of functions.
-fn functions_line(text: &[u8], regs: &[u64], at: usize) -> Functions
+fn functions_line(text: &[u8], regs: &[u64], at: usize) -> Result<Functions, Refused>
     requires { length regs.now ≤ most_registers }
-    ensures { result ≡ held_functions (functions_t text.now regs.now at (token_at text.now at)) }
+    ensures { result ≡ read_as held_functions (functions_t text.now regs.now at (token_at text.now at)) }
 {
-    let t = tokens::next(text, at);
-    if t.key == tokens::FUNS {
-        return read_line(
-            text,
-            regs,
-            [0; MOST_FUNCTIONS],
-            [0; MOST_FUNCTIONS],
-            0,
-            t.end,
-        );
-    }
-    Functions {
-        ok: true,
-        number: 0,
-        place: 0,
-        at: at,
+    let none = Functions {
+        at,
         count: 0,
         names: [0; MOST_FUNCTIONS],
         arities: [0; MOST_FUNCTIONS],
+    };
+    let t = tokens::next(text, at);
+    if t.key == tokens::FUNS {
+        return read_line(text, regs, none, t.end);
     }
+    Ok(none)
 }
 
 // Perhaps a line of tests, behind the functions.
-fn tests_line(text: &[u8], regs: &[u64], fs: Functions) -> Functions
+fn tests_line(text: &[u8], regs: &[u64], fs: Functions) -> Result<Functions, Refused>
     requires { (length regs.now ≤ most_registers) × FunctionsPadded fs }
-    ensures { result ≡ held_functions (tests_t text.now regs.now (take fs.count fs.names) (take fs.count fs.arities) fs.at
+    ensures { result ≡ read_as held_functions (tests_t text.now regs.now (take fs.count fs.names) (take fs.count fs.arities) fs.at
         (token_at text.now fs.at)) }
 {
-    let names = fs.names;
-    let arities = fs.arities;
-    let at = fs.at;
-    let t = tokens::next(text, at);
+    let t = tokens::next(text, fs.at);
     if t.key == tokens::TESTS {
         if MOST_REGISTERS < regs.len() + HIDDEN_REGISTERS {
-            return no_functions(NO_ROOM_FOR_TESTS, t.start);
+            return Err(Reason::NoRoomForTests.at(t.start as u64));
         }
-        return read_line(text, regs, names, arities, fs.count, t.end);
+        return read_line(text, regs, fs, t.end);
     }
-    Functions {
-        ok: true,
-        number: 0,
-        place: 0,
-        at: at,
-        count: fs.count,
-        names: names,
-        arities: arities,
-    }
+    Ok(fs)
 }
 
 fn no_macro() -> CompiledMacro
@@ -380,35 +265,11 @@ fn no_macro() -> CompiledMacro
     }
 }
 
-fn refused_answer(number: u8, place: usize) -> MacroRead
-    ensures { result ≡ held_reading (Got.refused number place) }
-{
-    let none = no_macro();
-    MacroRead {
-        refusal: number,
-        place: place,
-        program: none,
-    }
-}
-
-// The same refusal, where a macro was to be read.
-fn refused_text(g: GotNumber) -> MacroRead
-    ensures { result ≡ held_reading (refused_by g) }
-{
-    match g {
-        GotNumber::At(_, _) => refused_answer(0, 0),
-        GotNumber::Refused(n, p) => refused_answer(n, p),
-    }
-}
-
 // 1 for two arguments.
 fn flag(n: u8) -> u8
     ensures { (result ≡ arity_flag n) × (result ≤ 1) }
 {
-    if n == 2 {
-        return 1;
-    }
-    0
+    u8::from(n == 2)
 }
 
 // The functions of two arguments as a mask.
@@ -432,12 +293,11 @@ fn header_of(rs: Registers, fs: Functions, first_test: usize) -> Header
     requires { RegistersPadded rs × FunctionsPadded fs × RoomForHidden rs fs first_test }
     ensures { result ≡ headed rs fs first_test }
 {
-    let arities = fs.arities;
     let hidden = hidden_count(first_test, fs.count);
     Header {
         registers: (rs.count + hidden) as u8,
         functions: fs.count as u8,
-        binary: binary_of(arities),
+        binary: binary_of(fs.arities),
     }
 }
 
@@ -506,146 +366,104 @@ fn function_spellings(
     test_spellings(text, names, tests, first_test, count)
 }
 
-// Where reading the statements begins.
-fn start(at: usize) -> ReaderState
-    ensures { result ≡ reader_start at }
-{
-    ReaderState {
-        ok: true,
-        number: 0,
-        place: 0,
-        at: at,
-        count: 0,
-    }
-}
-
 // The end of the text, the count of points, and the macro.
 fn finish(
     text: &[u8],
     rs: Registers,
     fs: Functions,
     first_test: usize,
-    body: ReaderState,
-    code: &Codes,
-    first: &mut Successors,
-    second: &mut Successors,
-) -> MacroRead
+    at: usize,
+    mut points: Points,
+) -> Result<CompiledMacro, Refused>
     requires { RegistersPadded rs × FunctionsPadded fs × (first_test ≤ fs.count) × RoomForHidden rs fs first_test }
-    ensures { Finishes text.now rs fs first_test (held_by body code.now first.old second.old) result }
+    ensures { Finishes text.now rs fs first_test (progress at points) result }
 {
-    let t = tokens::next(text, body.at);
-    if t.key == tokens::END {
-        let n = body.count;
-        if blocks::MOST_POINTS < n {
-            return refused_answer(POINTS_TOO_MANY, 0);
-        }
-        blocks::redirect_range(first, second, 0, n, n);
-        let points = blocks::points_of(code, first, second, n);
-        let header = header_of(rs, fs, first_test);
-        let registers = register_spellings(text, rs.count, first_test, fs.count);
-        let functions = function_spellings(text, rs.count, first_test, fs.count);
-        return MacroRead {
-            refusal: 0,
-            place: 0,
-            program: CompiledMacro {
-                header: header,
-                registers: registers,
-                functions: functions,
-                points: points,
-                count: n,
-            },
-        };
+    let t = tokens::next(text, at);
+    if t.key != tokens::END {
+        return Err(phrases::unfitting(t));
     }
-    refused_answer(unfit_number(t), t.start)
+    let count = points.count;
+    if blocks::MOST_POINTS < count {
+        return Err(Reason::PointsTooMany.at(0));
+    }
+    points.redirect(0, count, count);
+    Ok(CompiledMacro {
+        header: header_of(rs, fs, first_test),
+        registers: register_spellings(text, rs.count, first_test, fs.count),
+        functions: function_spellings(text, rs.count, first_test, fs.count),
+        points: points.entries,
+        count,
+    })
 }
 
 // Behind the declarations.
-fn read_body(text: &[u8], rs: Registers, fs: Functions, first_test: usize) -> MacroRead
+fn read_body(
+    text: &[u8],
+    rs: Registers,
+    fs: Functions,
+    first_test: usize,
+) -> Result<CompiledMacro, Refused>
     requires { RegistersPadded rs × FunctionsPadded fs × (first_test ≤ fs.count) × RoomForHidden rs fs first_test }
-    ensures { result ≡ held_reading
+    ensures { result ≡ held_answer
         (body_from text.now (take rs.count rs.names) (take fs.count fs.names) (take fs.count fs.arities) first_test fs.at) }
 {
-    let regs = rs.names;
-    let n = rs.count;
-    let funs = fs.names;
-    let arities = fs.arities;
-    let m = fs.count;
-    let st = start(fs.at);
-    let mut code = [0u64; POINT_SPACE];
-    let mut first = [0u16; POINT_SPACE];
-    let mut second = [0u16; POINT_SPACE];
-    let body = blocks::block(
+    let scope = Scope {
         text,
-        &regs[..n],
-        &funs[..m],
-        &arities[..m],
-        first_test as u8,
-        st,
-        DEEPEST_NESTING,
-        &mut code,
-        &mut first,
-        &mut second,
-    );
-    if body.ok {
-        return finish(
-            text,
-            rs,
-            fs,
-            first_test,
-            body,
-            &code,
-            &mut first,
-            &mut second,
-        );
-    }
-    refused_answer(body.number, body.place)
+        registers: &rs.names[..rs.count],
+        functions: &fs.names[..fs.count],
+        arities: &fs.arities[..fs.count],
+        first_test: first_test as u8,
+    };
+    let mut points = Points::none();
+    let at = blocks::block(&scope, fs.at, DEEPEST_NESTING, &mut points)?;
+    finish(text, rs, fs, first_test, at, points)
 }
 
 // Behind the functions.
-fn read_tests(text: &[u8], rs: Registers, fs: Functions) -> MacroRead
+fn read_tests(text: &[u8], rs: Registers, fs: Functions) -> Result<CompiledMacro, Refused>
     requires { RegistersPadded rs × FunctionsPadded fs }
-    ensures { result ≡ held_reading
+    ensures { result ≡ held_answer
         (tests_from text.now (take rs.count rs.names) (take fs.count fs.names) (take fs.count fs.arities) fs.at) }
 {
-    let regs = rs.names;
-    let n = rs.count;
-    let first_test = fs.count;
-    let all = tests_line(text, &regs[..n], fs);
-    if all.ok {
-        return read_body(text, rs, all, first_test);
-    }
-    refused_answer(all.number, all.place)
+    let all = tests_line(text, &rs.names[..rs.count], fs)?;
+    read_body(text, rs, all, fs.count)
 }
 
 // Behind the registers.
-fn read_rest(text: &[u8], rs: Registers) -> MacroRead
+fn read_rest(text: &[u8], rs: Registers) -> Result<CompiledMacro, Refused>
     requires { RegistersPadded rs }
-    ensures { result ≡ held_reading (functions_from text.now (take rs.count rs.names) rs.at) }
+    ensures { result ≡ held_answer (functions_from text.now (take rs.count rs.names) rs.at) }
 {
-    let regs = rs.names;
-    let n = rs.count;
-    let at = rs.at;
-    let fs = functions_line(text, &regs[..n], at);
-    if fs.ok {
-        return read_tests(text, rs, fs);
+    let fs = functions_line(text, &rs.names[..rs.count], rs.at)?;
+    read_tests(text, rs, fs)
+}
+
+// Reads a macro.
+fn compiled(text: &[u8]) -> Result<CompiledMacro, Refused>
+    ensures { result ≡ held_answer (read_macro text.now) }
+{
+    if LONGEST_TEXT < text.len() {
+        return Err(Reason::TextTooLong.at(0));
     }
-    refused_answer(fs.number, fs.place)
+    let a = phrases::expect(text, tokens::VARS, 0)?;
+    let rs = read_registers(text, a)?;
+    read_rest(text, rs)
 }
 
 /// Reads a macro: question 7, then the text token by token (8 to 12, and 16), then the count of points (13).
 pub fn read(text: &[u8]) -> MacroRead
     ensures { Reads text.now result }
 {
-    if LONGEST_TEXT < text.len() {
-        return refused_answer(TEXT_TOO_LONG, 0);
+    match compiled(text) {
+        Ok(program) => MacroRead {
+            refusal: 0,
+            place: 0,
+            program,
+        },
+        Err(refused) => MacroRead {
+            refusal: refused.reason.into(),
+            place: refused.place as usize,
+            program: no_macro(),
+        },
     }
-    let g = phrases::expect(text, tokens::VARS, 0);
-    let GotNumber::At(_, a) = g else {
-        return refused_text(g);
-    };
-    let rs = read_registers(text, a);
-    if rs.ok {
-        return read_rest(text, rs);
-    }
-    refused_answer(rs.number, rs.place)
 }

@@ -4,7 +4,8 @@ use Prim.Native.Nat.{ℕ, zero, suc, ◌+◌, ◌*◌, ◌-◌, ◌≤◌, ◌<�
 use native.Mathlib.Omega.{arith}
 use mathlib.Core.Bool.{Bool, true, false}
 use mathlib.Core.List.{List, [], ◌∷◌, ◌++◌, map, append_assoc, append-nil}
-use mathlib.Core.Option.{Option, none, some}
+use mathlib.Core.Option as math
+use mathlib.Core.Option.{none, some}
 use lib.Dec.{eqb, leb}
 use lib.ListN.{length, length-append}
 use borrow.Author.Tests.{eq-eqb, ne_eqb, leb-true, leb-false, eqb-true, lt-ltb, le-ltb}
@@ -22,21 +23,28 @@ use Rattle.tokens.specs.Tokens.{token_at}
 use Rattle.tokens.proofs.Theory.TokensLaws.{token_advance, token_before_end}
 use Rattle.tokens.specs.Words.{is_name}
 use Rattle.tokens.specs.Words as word
-use Rattle.grammar.specs.Reading.{Got, got, exhausted, and_then, refused_token, expect, ended, condition, ended_condition, assignment, braces_t, block, statement}
+use Rattle.grammar.specs.Reading.{Got, got, exhausted, and_then, expect, ended, condition, ended_condition, assignment, braces_t, block, statement}
 use Rattle.grammar.specs.Reading.{closing}
 use Rattle.grammar.proofs.Theory.Advance.{condition_on, statement_on, braces_on}
-use Rattle.grammar.proofs.Theory.Enough.{IsAnswer, expect_answers, condition_answers, tested_answers, assignment_answers}
-use Rattle.phrases.specs.Codes.{plain, without_value, lettered, test_of, posed, asked}
-use Rattle.phrases.specs.declared.GotNumber as number
-use Rattle.phrases.specs.declared.GotLetter as letter
-use Rattle.phrases.specs.declared.GotCondition as held
-use Rattle.blocks.specs.Held.{step_kind, check_kind, fork_kind, point, unknown, too_many, Progress, points_over, HoldsPoints}
-use Rattle.blocks.proofs.Theory.Held.{redirected}
-use Rattle.blocks.specs.Outcome.{Fine, RefusedAt, ReadAs, Settled, Weighed, Passed, ReaderReady, Enough, inner_block, braces_at, else_at, if_at, while_at}
-use Rattle.blocks.specs.Outcome.{waiting, begins, statement_code, else_code, block_code}
-use Rattle.blocks.proofs.Theory.Outcome.{within, forked, joined, branched, looped, lead, condition_code}
+use Rattle.grammar.proofs.Theory.Enough.{IsAnswer, expect_answers}
+use Rattle.std.proofs.Common.{Result, Ok, Err, Some}
+use Rattle.std.specs.Result.{IsErr, IsErrAnd}
+use Rattle.std.proofs.lemmas.Result.{err_from_is_err_and}
+use Rattle.letters.specs.declared.reasons.Refused.{Refused}
+use Rattle.grammar.specs.Tree.{Assignment}
+use Rattle.phrases.specs.Codes.{refused_as, unfit, read_as, without_value, lettered, test_of, posed, held_condition, asked}
+use Rattle.phrases.specs.declared.Condition as held
+use Rattle.phrases.proofs.Theory.Answers.{coded_on}
+use Rattle.blocks.specs.Held.{point, unknown, too_many, Progress, progress, outcome, points_over, HoldsPoints, redirected, within}
+use Rattle.blocks.specs.Outcome.{Fine, RefusedAs, ReadAs, Adds, Enough, inner_block, braces_at, else_at, if_at, while_at}
+use Rattle.blocks.specs.Outcome.{waiting, begins, condition_points, statement_code, else_code, block_code, forked}
+use Rattle.blocks.proofs.Theory.Outcome.{joined, branched, looped, lead, condition_code}
 use Rattle.blocks.specs.Outcome.{PlainRead, BlockRead, StatementRead, BracesRead, ElseRead, ConditionalRead, RepeatRead}
-use Rattle.blocks.proofs.Theory.OutcomeLaws.{fine_count, fine_some, fine_then, fine_changed, outcome_fine, outcome_refused, changed_none, changed_some}
+use Rattle.blocks.specs.declared.PointKind.{PointKind}
+use Rattle.blocks.specs.declared.PointKind.TheVariants.{Step, Check, Fork}
+use Rattle.blocks.specs.declared.points.Points.{Points}
+use Rattle.blocks.proofs.Theory.OutcomeLaws.{fine_moved, fine_count, fine_some, fine_then, fine_changed, outcome_fine, outcome_refused}
+use Rattle.blocks.proofs.Theory.OutcomeLaws.{changed_none, changed_some}
 use Rattle.blocks.proofs.Theory.TableLaws.{over_forked, over_range}
 use Rattle.blocks.proofs.Theory.Redirect.{else_held, block_held, else_held_length, block_held_length, statement_length, block_length, behind, behind_size}
 use Rattle.blocks.proofs.Theory.Redirect.{code_none, code_some, branch_held, loop_held, assume_code, assert_code, if_code, while_code, turned_code}
@@ -44,28 +52,65 @@ use Rattle.blocks.specs.declared.PointEntry.{PointEntry}
 
 -- ---- the outcome of a phrase
 
--- an answer that was settled is the outcome of the reading behind it
-settled_outcome : {A : Type 0} (f : A → Letter) (g : Got A) (h : letter.GotLetter) (st r : Progress) → IsAnswer g → h ≡ lettered f g
-    → Settled st r h → ReadAs (λ a _. waiting step_kind (f a) ∷ []) st r g
-settled_outcome f (got a e) h st r x p q = rw p at q
-settled_outcome f (Got.refused m o) h st r x p q = rw p at q
-settled_outcome f exhausted h st r x p q = absurd (x refl)
+-- what leaves by a `?` is the refusal that came in
+pub exit : {A B : Type 0} {r : Result A Refused} {w : Result B Refused} {e : Refused} → r ≡ Err e → IsErr w × IsErrAnd w (λ d. d ≡ e) → w ≡ Err e
+exit {w = w} i o = let (d, p, q) = err_from_is_err_and w o.1 in p ∙ ap Err q
 
--- and so a condition
-weighed_outcome : (n k : ℕ) (g : Got Condition) (h : held.GotCondition) (st r : Progress) → IsAnswer g → h ≡ asked n g → Weighed k st r h
-    → ReadAs (condition_code k n) st r g
-weighed_outcome n k (got c e) h st r x p q = go (application n c) (rw p at q)
+-- a state by the answer that it came with
+pub well : {r : Result ℕ Refused} {e : ℕ} (ps : Points) → r ≡ Ok e → outcome r ps ≡ progress e ps
+well ps i = ap (λ r. outcome r ps) i
+
+-- what holds of the answer's state holds of the place's, and what holds beside a refusal holds where it leaves by a `?`
+pub arrives : {r : Result ℕ Refused} {e : ℕ} (P : Progress → Type 0) (ps : Points) → r ≡ Ok e → P (outcome r ps) → P (progress e ps)
+arrives P ps i h = subst P (well ps i) h
+
+pub leaves : {r : Result ℕ Refused} (w : Result ℕ Refused) {e : Refused} (P : Progress → Type 0) (ps : Points) → r ≡ Err e → IsErr w × IsErrAnd w (λ d. d ≡ e)
+    → P (outcome r ps) → P (outcome w ps)
+leaves w P ps i o h = subst P (ap (λ r. outcome r ps) (i ∙ sym (exit {w = w} i o))) h
+
+pub ill : {r : Result ℕ Refused} {e : Refused} (ps : Points) → r ≡ Err e → (outcome r ps).ok ≡ false
+ill ps i = ap (λ r. (outcome r ps).ok) i
+
+pub exit_ill : {A : Type 0} {r : Result A Refused} (w : Result ℕ Refused) {e : Refused} (ps : Points) → r ≡ Err e → IsErr w × IsErrAnd w (λ d. d ≡ e)
+    → (outcome w ps).ok ≡ false
+exit_ill w ps i o = ill ps (exit {w = w} i o)
+
+pub refused_with : (ps : Points) {e d : Refused} → e ≡ d → RefusedAs (outcome (Err e) ps) d
+refused_with ps i = record { ok = refl; refusal = ap Some i; at = refl; count = refl }
+
+-- a refusal of a phrase is the outcome of its reading
+pub refused_outcome : {A X : Type 0} (f : A → ℕ → X) (code : A → ℕ → List PointEntry) (g : Got A) (st : Progress) (ps : Points) {r : Result X Refused}
+    (w : Result ℕ Refused) {e : Refused} → IsAnswer g → r ≡ read_as f g → r ≡ Err e → IsErr w × IsErrAnd w (λ d. d ≡ e) → ReadAs code st (outcome w ps) g
+refused_outcome f code (got a p) st ps w x i j o = absurd (cc)
+refused_outcome f code (Got.refused n p) st ps w {e = e} x i j o =
+    let z : e ≡ refused_as n p = cc in rw (exit j o) (refused_with ps z)
+refused_outcome f code exhausted st ps w x i j o = absurd (x refl)
+
+-- an assignment that was read, with its point
+pub assigned_outcome : (g : Got Assignment) (a : ℕ) (old new : Points) {r : Result (Letter × ℕ) Refused} {l : Letter} {e : ℕ} → r ≡ lettered letter_of g
+    → r ≡ Ok (l, e) → Adds old new (waiting Step l ∷ []) → ReadAs (λ x _. waiting Step (letter_of x) ∷ []) (progress a old) (progress e new) g
+assigned_outcome g a old new {e = e} i j f =
+    let (x, w, h) = coded_on letter_of g i j in
+    rw w (subst (λ l. Fine (progress a old) (progress e new) (waiting Step l ∷ []) e) h (f a e))
+
+-- and a condition with its points
+pub posed_outcome : (n : ℕ) (k : PointKind) (g : Got Condition) (a : ℕ) (old new : Points) {r : Result (held.Condition × ℕ) Refused} {c :
+    held.Condition} {e : ℕ}
+    → r ≡ asked n g → r ≡ Ok (c, e) → Adds old new (condition_points k c old.count) → ReadAs (condition_code k n) (progress a old) (progress e new) g
+posed_outcome n k g a old new {e = e} i j f =
+    let (x, w, h) = coded_on (held_condition n) g i j in
+    rw w (subst (λ ps. Fine (progress a old) (progress e new) ps e)
+    (ap (λ c. condition_points k c old.count) h ∙ same (application n x) (test_of n x)) (f a e))
   where
-    go : (o : Option Letter) → Weighed k st r (posed o (test_of n c) e) → Fine st r (lead o st.count ++ waiting k (test_of n c) ∷ []) e
-    go none w = w
-    go (some a) w = w
-weighed_outcome n k (Got.refused m o) h st r x p q = rw p at q
-weighed_outcome n k exhausted h st r x p q = absurd (x refl)
+    same : (o : math.Option Letter) (t : Letter) → condition_points k (posed o t) old.count ≡ lead o old.count ++ waiting k t ∷ []
+    same none t = refl
+    same (some b) t = refl
 
-passed_outcome : (g : Got (Unit {0})) (h : number.GotNumber) (st r : Progress) → IsAnswer g → h ≡ without_value g → Passed st r h → ReadAs (λ _ _. []) st r g
-passed_outcome (got a e) h st r x p q = rw p at q
-passed_outcome (Got.refused m o) h st r x p q = rw p at q
-passed_outcome exhausted h st r x p q = absurd (x refl)
+passed_outcome : (g : Got (Unit {0})) (a : ℕ) (ps : Points) {r : Result ℕ Refused} → IsAnswer g → r ≡ without_value g
+    → ReadAs (λ _ _. []) (progress a ps) (outcome r ps) g
+passed_outcome (got v e) a ps x i = rw i (fine_moved ps a e)
+passed_outcome (Got.refused m o) a ps x i = rw i (refused_with ps refl)
+passed_outcome exhausted a ps x i = absurd (x refl)
 
 -- what was read, made into something with the same points
 outcome_map : {A B : Type 0} (code : A → ℕ → List PointEntry) (code' : B → ℕ → List PointEntry) (st r : Progress) (g : Got A) (f : A → B)
@@ -181,8 +226,7 @@ module _ (s rs fs ns : List ℕ) (m₀ d : ℕ) where
       here : Fine cur cur [] cur.at
       here = record {
         ok = f.ok;
-        number = f.number;
-        place = f.place;
+        refusal = f.refusal;
         at = refl;
         low = λ l. omega arith;
         high = λ l. let c = fine_count f in omega arith;
@@ -283,46 +327,44 @@ token_on s at t e h = subst (λ t. (2 ≤ t.key) → (at < t.end) × (t.end ≤ 
 -- ---- statements
 
 module _ (s rs fs ns : List ℕ) (m₀ : ℕ) (t : Token) (st : Progress) where
-  pub plain_skip : (h : number.GotNumber) (r : Progress) → t.key ≡ word.skip_key → h ≡ without_value (expect s word.semicolon_key t.end) → Passed st r h
-      → PlainRead s rs fs ns m₀ t st r
+  pub plain_skip : (h : Result ℕ Refused) (ps : Points) (a : ℕ) → st ≡ progress a ps → t.key ≡ word.skip_key
+      → h ≡ without_value (expect s word.semicolon_key t.end) → PlainRead s rs fs ns m₀ t st (outcome h ps)
   unfolding statement statement_code compile expanded_statement entry size_block
-  plain_skip h r i p q = record {
+  plain_skip h ps a z i p = record {
     read = λ d e m n. record {
       outcome = λ k l. rw (← e, eq-eqb _ word.skip_key i)
-          (outcome_map (λ _ _. []) (statement_code (length rs)) st r (expect s word.semicolon_key t.end) (λ _. skip) (λ _. refl)
-          (passed_outcome (expect s word.semicolon_key t.end) h st r (expect_answers s word.semicolon_key t.end) p q));
+          (outcome_map (λ _ _. []) (statement_code (length rs)) st (outcome h ps) (expect s word.semicolon_key t.end) (λ _. skip) (λ _. refl)
+          (rw z (passed_outcome (expect s word.semicolon_key t.end) a ps (expect_answers s word.semicolon_key t.end) p)));
     };
   }
 
-  pub plain_assume : (h : held.GotCondition) (r : Progress) → t.key ≡ word.assume_key → h ≡ asked (length rs) (ended_condition s rs fs ns m₀ t.end)
-      → Weighed step_kind st r h → PlainRead s rs fs ns m₀ t st r
+  pub plain_assume : (r : Progress) → t.key ≡ word.assume_key → ReadAs (condition_code Step (length rs)) st r (ended_condition s rs fs ns m₀ t.end)
+      → PlainRead s rs fs ns m₀ t st r
   unfolding statement
-  plain_assume h r i p q = record {
+  plain_assume r i q = record {
     read = λ d e m n. record {
       outcome = λ k l. rw (← e, ap (λ k. eqb k word.skip_key) i, eq-eqb _ word.assume_key i)
-          (outcome_map (condition_code step_kind (length rs)) (statement_code (length rs)) st r (ended_condition s rs fs ns m₀ t.end) assume
-          (λ c. assume_code (length rs) c st.count)
-          (weighed_outcome (length rs) step_kind (ended_condition s rs fs ns m₀ t.end) h st r (tested_answers s rs fs ns m₀ t.end) p q));
+          (outcome_map (condition_code Step (length rs)) (statement_code (length rs)) st r (ended_condition s rs fs ns m₀ t.end) assume
+          (λ c. assume_code (length rs) c st.count) q);
     };
   }
 
-  pub plain_assert : (h : held.GotCondition) (r : Progress) → t.key ≡ word.assert_key → h ≡ asked (length rs) (ended_condition s rs fs ns m₀ t.end)
-      → Weighed check_kind st r h → PlainRead s rs fs ns m₀ t st r
+  pub plain_assert : (r : Progress) → t.key ≡ word.assert_key → ReadAs (condition_code Check (length rs)) st r (ended_condition s rs fs ns m₀ t.end)
+      → PlainRead s rs fs ns m₀ t st r
   unfolding statement
-  plain_assert h r i p q = record {
+  plain_assert r i q = record {
     read = λ d e m n. record {
       outcome = λ k l. rw (← e, ap (λ k. eqb k word.skip_key) i, ap (λ k. eqb k word.assume_key) i, eq-eqb _ word.assert_key i)
-          (outcome_map (condition_code check_kind (length rs)) (statement_code (length rs)) st r (ended_condition s rs fs ns m₀ t.end) assert
-          (λ c. assert_code (length rs) c st.count)
-          (weighed_outcome (length rs) check_kind (ended_condition s rs fs ns m₀ t.end) h st r (tested_answers s rs fs ns m₀ t.end) p q));
+          (outcome_map (condition_code Check (length rs)) (statement_code (length rs)) st r (ended_condition s rs fs ns m₀ t.end) assert
+          (λ c. assert_code (length rs) c st.count) q);
     };
   }
 
   module _ (n₁ : t.key ≡ word.skip_key → ⊥) (n₂ : t.key ≡ word.assume_key → ⊥) (n₃ : t.key ≡ word.assert_key → ⊥) (b : Bool) (i : b ≡ is_name t.key) where
-    pub plain_assign : (h : letter.GotLetter) (r : Progress) → b ≡ true → h ≡ lettered letter_of (assignment s rs fs ns m₀ st.at) → Settled st r h
+    pub plain_assign : (r : Progress) → b ≡ true → ReadAs (λ x _. waiting Step (letter_of x) ∷ []) st r (assignment s rs fs ns m₀ st.at)
         → PlainRead s rs fs ns m₀ t st r
     unfolding statement statement_code compile expanded_statement entry size_block
-    plain_assign h r j p q = record {
+    plain_assign r j q = record {
       read = λ d e n₄ n₅. record {
         outcome = λ k l.
             rw (
@@ -335,14 +377,13 @@ module _ (s rs fs ns : List ℕ) (m₀ : ℕ) (t : Token) (st : Progress) where
               ne_eqb _ word.while_key n₅,
               j,
             )
-            (outcome_map (λ a _. waiting step_kind (letter_of a) ∷ []) (statement_code (length rs)) st r (assignment s rs fs ns m₀ st.at) assign (λ _. refl)
-            (settled_outcome letter_of (assignment s rs fs ns m₀ st.at) h st r (assignment_answers s rs fs ns m₀ st.at) p q));
+            (outcome_map (λ a _. waiting Step (letter_of a) ∷ []) (statement_code (length rs)) st r (assignment s rs fs ns m₀ st.at) assign (λ _. refl) q);
       };
     }
 
-    pub plain_unfit : (h : number.GotNumber) (r : Progress) → b ≡ false → h ≡ plain (refused_token t) → Passed st r h → PlainRead s rs fs ns m₀ t st r
+    pub plain_unfit : (u : Refused) (ps : Points) → b ≡ false → u ≡ unfit t → PlainRead s rs fs ns m₀ t st (outcome (Err u) ps)
     unfolding statement
-    plain_unfit h r j p q = record {
+    plain_unfit u ps j p = record {
       read = λ d e n₄ n₅. record {
         outcome = λ k l.
             rw (
@@ -355,7 +396,7 @@ module _ (s rs fs ns : List ℕ) (m₀ : ℕ) (t : Token) (st : Progress) where
               ne_eqb _ word.while_key n₅,
               j,
             )
-            (rw p at q);
+            (refused_with ps p);
       };
     }
 
@@ -392,16 +433,16 @@ module _ (s rs fs ns : List ℕ) (m₀ d : ℕ) (st : Progress) (t : Token) (e :
 
   -- ---- braces
 
-  pub braces_deep : (r : Progress) → t.key ≡ word.lbrace_key → d ≡ 0 → RefusedAt r nesting_too_deep t.start → BracesRead s rs fs ns m₀ d st r
-  braces_deep r h z o = record { outcome = λ k l. rw (z, ← e, eq-eqb _ word.lbrace_key h) o }
+  pub braces_deep : (u : Refused) (ps : Points) → t.key ≡ word.lbrace_key → d ≡ 0 → u ≡ refused_as nesting_too_deep t.start
+      → BracesRead s rs fs ns m₀ d st (outcome (Err u) ps)
+  braces_deep u ps h z o = record { outcome = λ k l. rw (z, ← e, eq-eqb _ word.lbrace_key h) (refused_with ps o) }
 
-  pub braces_unfit : (h : number.GotNumber) (r : Progress) → (t.key ≡ word.lbrace_key → ⊥) → h ≡ plain (refused_token t) → Passed st r h
-      → BracesRead s rs fs ns m₀ d st r
-  braces_unfit h r n p q = record { outcome = λ k l. go k d }
+  pub braces_unfit : (u : Refused) (ps : Points) → (t.key ≡ word.lbrace_key → ⊥) → u ≡ unfit t → BracesRead s rs fs ns m₀ d st (outcome (Err u) ps)
+  braces_unfit u ps n p = record { outcome = λ k l. go k d }
     where
-      go : (k d : ℕ) → ReadAs (block_code (length rs)) st r (braces_t s rs fs ns m₀ (inner_block s rs fs ns m₀ d k) d (token_at s st.at))
-      go k zero = rw (← e, ne_eqb _ word.lbrace_key n) (rw p at q)
-      go k (suc d) = rw (← e, ne_eqb _ word.lbrace_key n) (rw p at q)
+      go : (k d : ℕ) → ReadAs (block_code (length rs)) st (outcome (Err u) ps) (braces_t s rs fs ns m₀ (inner_block s rs fs ns m₀ d k) d (token_at s st.at))
+      go k zero = rw (← e, ne_eqb _ word.lbrace_key n) (refused_with ps p)
+      go k (suc d) = rw (← e, ne_eqb _ word.lbrace_key n) (refused_with ps p)
 
   module _ (h : t.key ≡ word.lbrace_key) (n : d ≡ 0 → ⊥) (v : st.count ≤ too_many) (p q : Progress) (f : Fine st p [] t.end)
       (B : BlockRead s rs fs ns m₀ (d - 1) p q) where
@@ -428,21 +469,24 @@ module _ (s rs fs ns : List ℕ) (m₀ d : ℕ) (st : Progress) (t : Token) (e :
           (block_inside k l) i);
     }
 
-    pub braces_read : q.ok ≡ true → (o : number.GotNumber) (r : Progress) → o ≡ without_value (expect s word.rbrace_key q.at) → Passed q r o
-        → BracesRead s rs fs ns m₀ d st r
-    braces_read i o r g u = record {
+    pub braces_read : (x : ℕ) (ps : Points) → q ≡ progress x ps → (o : Result ℕ Refused) → o ≡ without_value (expect s word.rbrace_key x)
+        → BracesRead s rs fs ns m₀ d st (outcome o ps)
+    braces_read x ps i o g = record {
       outcome = λ k l.
           let z : d ≡ suc (d - 1) = omega arith in
-          let (b, m, w, j) = outcome_fine (block_code (length rs)) st q (block s rs fs ns m₀ k (d - 1) t.end) (block_inside k l) i in
+          let (b, m, w, j) = outcome_fine (block_code (length rs)) st q (block s rs fs ns m₀ k (d - 1) t.end) (block_inside k l) (ap (λ q. q.ok) i) in
+          let y : x ≡ m = sym (ap (λ q. q.at) i) ∙ j.at in
           rw (opened_brace k (d - 1) z, w)
-          (go b m j (expect s word.rbrace_key m) (expect_answers s word.rbrace_key m) (g ∙ ap (λ n. without_value (expect s word.rbrace_key n)) j.at));
+          (go b m (subst (λ q. Fine st q (block_code (length rs) b st.count) m) i j) (expect s word.rbrace_key m) (expect_answers s word.rbrace_key m)
+          (g ∙ ap (λ n. without_value (expect s word.rbrace_key n)) y));
     }
       where
-        go : (b : Block) (m : ℕ) → Fine st q (block_code (length rs) b st.count) m → (x : Got (Unit {0})) → IsAnswer x → o ≡ without_value x
-            → ReadAs (block_code (length rs)) st r (and_then x λ _ e. got b e)
-        go b m y (got v e) a g = subst (λ ps. Fine st r ps e) (append-nil (block_code (length rs) b st.count)) (fine_then y (rw g at u))
-        go b m y (Got.refused n v) a g = rw g at u
-        go b m y exhausted a g = absurd (a refl)
+        go : (b : Block) (m : ℕ) → Fine st (progress x ps) (block_code (length rs) b st.count) m → (y : Got (Unit {0})) → IsAnswer y → o ≡ without_value y
+            → ReadAs (block_code (length rs)) st (outcome o ps) (and_then y λ _ e. got b e)
+        go b m f (got v e) a g =
+            rw g (subst (λ ps'. Fine st (progress e ps) ps' e) (append-nil (block_code (length rs) b st.count)) (fine_then f (fine_moved ps x e)))
+        go b m f (Got.refused n v) a g = rw g (refused_with ps refl)
+        go b m f exhausted a g = absurd (a refl)
 
     pub block_count : q.ok ≡ true → q.count ≤ too_many
     block_count i =
@@ -485,7 +529,7 @@ begins_entry from zero follow = rw (le-ltb from (from + 0) (omega arith))
 begins_entry from (suc n) follow = rw (lt-ltb from (from + suc n) (omega arith))
 
 -- Behind the points ls stands the point of a test, number `st.count + length ls`, and behind it what is to follow: the table once that is read.
-module _ (l : Letter) (ls : List PointEntry) (st p : Progress) (a : ℕ) (F : Fine st p (ls ++ waiting fork_kind l ∷ []) a) where
+module _ (l : Letter) (ls : List PointEntry) (st p : Progress) (a : ℕ) (F : Fine st p (ls ++ waiting Fork l ∷ []) a) where
   abbrev base : ℕ
   base = st.count
 
@@ -493,7 +537,7 @@ module _ (l : Letter) (ls : List PointEntry) (st p : Progress) (a : ℕ) (F : Fi
   test_at = base + length ls
 
   abbrev w : PointEntry
-  w = waiting fork_kind l
+  w = waiting Fork l
 
   -- the points of the test and those before it, where they fit
   test_low : test_at < most_points → (p.count ≡ test_at + 1) × (p.count - 1 ≡ test_at)
@@ -534,7 +578,7 @@ module _ (l : Letter) (ls : List PointEntry) (st p : Progress) (a : ℕ) (F : Fi
             ∙ ap (λ n. forked (points_over old ((ds ++ ls) ++ w ∷ turned)) n begin unknown) (let k : test_at ≡ length (ds ++ ls) = omega arith in k)
             ∙ over_forked old (ds ++ ls) turned w begin unknown
             ∙ (λ i. points_over old ((ds ++ ls)
-            ++ point fork_kind l ((ap (λ n. begins (test_at + 1) n base) end ∙ begins_entry (test_at + 1) (size_block b) base) i) unknown ∷ body i))
+            ++ point Fork l ((ap (λ n. begins (test_at + 1) n base) end ∙ begins_entry (test_at + 1) (size_block b) base) i) unknown ∷ body i))
             ∙ ap (points_over old) (append_assoc ds ls (loop_held l b test_at base));
       }))
     where
@@ -576,36 +620,32 @@ module _ (l : Letter) (ls : List PointEntry) (st p : Progress) (a : ℕ) (F : Fi
             (Q.points ∙ ap (λ ps. points_over old (ds ++ ps)) (append_assoc (ls ++ w ∷ []) pb pe) ∙ ap (points_over old) (regroup ds (pb ++ pe)))
             ∙ ap (λ n. forked (points_over old ((ds ++ ls) ++ w ∷ (pb ++ pe))) n holds_at fails_at) (let k : test_at ≡ length (ds ++ ls) = omega arith in k)
             ∙ over_forked old (ds ++ ls) (pb ++ pe) w holds_at fails_at
-            ∙ (λ i. points_over old ((ds ++ ls) ++ point fork_kind l (yes_at i) (no_at i) ∷ (block_held b (low i) unknown ++ else_held o (mid i) unknown)))
+            ∙ (λ i. points_over old ((ds ++ ls) ++ point Fork l (yes_at i) (no_at i) ∷ (block_held b (low i) unknown ++ else_held o (mid i) unknown)))
             ∙ ap (points_over old) (append_assoc ds ls (branch_held l b o test_at));
       }))
 
-module _ (s rs fs ns : List ℕ) (m₀ : ℕ) (st p : Progress) (g : held.GotCondition) (i : g ≡ asked (length rs) (condition s rs fs ns m₀ st.at))
-    (u : Weighed fork_kind st p g) where
-  tested_outcome : ReadAs (condition_code fork_kind (length rs)) st p (condition s rs fs ns m₀ st.at)
-  tested_outcome = weighed_outcome (length rs) fork_kind (condition s rs fs ns m₀ st.at) g st p (condition_answers s rs fs ns m₀ st.at) i u
-
+module _ (s rs fs ns : List ℕ) (m₀ : ℕ) (st p : Progress) (tested_outcome : ReadAs (condition_code Fork (length rs)) st p (condition s rs fs ns m₀ st.at)) where
   -- the condition that was read
   told : p.ok ≡ true → (c : Condition) × (a : ℕ) × (condition s rs fs ns m₀ st.at ≡ got c a)
-      × Fine st p (condition_code fork_kind (length rs) c st.count) a
-  told ok = outcome_fine (condition_code fork_kind (length rs)) st p (condition s rs fs ns m₀ st.at) tested_outcome ok
+      × Fine st p (condition_code Fork (length rs) c st.count) a
+  told ok = outcome_fine (condition_code Fork (length rs)) st p (condition s rs fs ns m₀ st.at) tested_outcome ok
 
   pub condition_at : p.ok ≡ true → (st.at < p.at) × (st.at < length s) × (p.count ≤ too_many) × (0 < p.count)
   condition_at ok =
       let (c, a, w, f) = told ok in let (x, y) = condition_on s rs fs ns m₀ st.at c a w in
-      let n = length-append (lead (application (length rs) c) st.count) (waiting fork_kind (test_of (length rs) c) ∷ []) in
+      let n = length-append (lead (application (length rs) c) st.count) (waiting Fork (test_of (length rs) c) ∷ []) in
       (omega (arith, f.at), y, fine_count f, fine_some f (omega arith))
 
   module _ (d : ℕ) where
     pub conditional_refused : p.ok ≡ false → ConditionalRead s rs fs ns m₀ d st p
     conditional_refused h = record {
-      outcome = λ k l. outcome_refused (condition_code fork_kind (length rs)) (statement_code (length rs)) st st p (condition s rs fs ns m₀ st.at) _
+      outcome = λ k l. outcome_refused (condition_code Fork (length rs)) (statement_code (length rs)) st st p (condition s rs fs ns m₀ st.at) _
           tested_outcome h;
     }
 
     pub repeat_refused : p.ok ≡ false → RepeatRead s rs fs ns m₀ d st p
     repeat_refused h = record {
-      outcome = λ k l. outcome_refused (condition_code fork_kind (length rs)) (statement_code (length rs)) st st p (condition s rs fs ns m₀ st.at) _
+      outcome = λ k l. outcome_refused (condition_code Fork (length rs)) (statement_code (length rs)) st st p (condition s rs fs ns m₀ st.at) _
           tested_outcome h;
     }
 
@@ -666,8 +706,3 @@ module _ (s rs fs ns : List ℕ) (m₀ : ℕ) (st p : Progress) (g : held.GotCon
               rw (w, v, v', q, if_code (length rs) c b st.count o)
               (branched_fine (test_of (length rs) c) ls st p a F (expanded_block (length rs) b) (expanded_else (length rs) o) y z m f G E');
         }
-
--- ---- small facts for the calls
-
-pub ready : {rs fs ns : List ℕ} {m i j : ℕ} → ReaderReady rs fs ns m i → j ≤ too_many → ReaderReady rs fs ns m j
-ready r h = record { few = r.few; counted = h }

@@ -4,76 +4,71 @@ use Prim.Native.Nat.{ℕ, ◌+◌, ◌≤◌, ◌<◌}
 use native.Mathlib.Omega.{arith}
 use mathlib.Core.Bool.{true, false}
 use mathlib.Core.List.{List, [], ◌∷◌, ◌++◌, append_assoc, append-nil}
-use lib.Dec.{leb, ltb}
+use lib.Dec.{leb}
 use lib.ListN.{length, set, take, drop, length-append, take-append-drop}
 use lib.Seq.{length-take-le}
 use borrow.Author.Tests.{leb-true, leb-false, le-ltb, lt-leb, le-leb}
+use Rattle.std.proofs.Common.{Some, None}
 use Rattle.base.proofs.Theory.Choice.{by_test}
 use Rattle.base.specs.Each.{each}
-use Rattle.grammar.specs.Limits.{most_points}
-use Rattle.blocks.specs.Held.{step_kind, unknown, too_many}
 use Rattle.letters.specs.declared.Letter.{Letter}
+use Rattle.grammar.specs.Limits.{most_points}
 use Rattle.grammar.specs.Reading.{Got, got, exhausted, and_then}
-use Rattle.phrases.specs.declared.GotNumber as number
-use Rattle.phrases.specs.declared.GotLetter as letter
-use Rattle.phrases.specs.declared.GotCondition as held
-use Rattle.blocks.specs.Held.{point, Coded, points_of, Progress, progress_of, held_by, HoldsPoints}
-use Rattle.blocks.specs.Outcome.{Fine, RefusedAt, ReadAs, Settled, Weighed, Passed, waiting, applying, backpatched_in, begins}
-use Rattle.blocks.specs.Outcome.{changed_to}
-use Rattle.blocks.proofs.Theory.Outcome.{with_points, changed, forked, joined, branched, looped}
-use Rattle.blocks.proofs.Theory.TableLaws.{over_push, points_set, points_forked, points_range}
+use Rattle.blocks.specs.Held.{point, Progress, progress, HoldsPoints, unknown, too_many, within}
+use Rattle.phrases.specs.declared.Condition.{Condition}
+use Rattle.blocks.specs.Outcome.{Fine, ReadAs, Adds, waiting, leading, condition_points, begins, changed_to, forked}
+use Rattle.blocks.specs.declared.PointKind.TheVariants.{Step}
+use Rattle.blocks.proofs.Theory.Outcome.{with_points, changed, joined, branched, looped}
+use Rattle.blocks.proofs.Theory.TableLaws.{over_push}
+use Rattle.blocks.specs.declared.PointKind.{PointKind}
 use Rattle.blocks.specs.declared.PointEntry.{PointEntry}
-use Rattle.blocks.specs.declared.ReaderState.{ReaderState}
+use Rattle.blocks.specs.declared.points.Points.{Points}
 
 -- ---- one step
 
-abbrev pub on : ℕ → ℕ → ReaderState
-on at n = record { ok = true; number = 0; place = 0; at = at; count = n }
+-- at a place, with a count of points in a table
+abbrev pub on : ℕ → ℕ → List PointEntry → Progress
+on at n ps = record { ok = true; refusal = None; at = at; count = n; points = ps }
 
-pub fine_moved : (st : ReaderState) (at : ℕ) → st.count ≤ too_many → (ps : List PointEntry) → Fine (progress_of st ps) (progress_of (on at st.count) ps) [] at
-fine_moved st at h ps = record {
+-- to another place, with no point more
+pub fine_moved : (ps : Points) (a e : ℕ) → Fine (progress a ps) (progress e ps) [] e
+fine_moved ps a e = record {
   ok = refl;
-  number = refl;
-  place = refl;
+  refusal = refl;
   at = refl;
   low = λ l. omega arith;
-  high = λ l. omega arith;
-  laid = λ old ds H l. subst (HoldsPoints old (progress_of (on at st.count) ps)) (sym (append-nil ds))
+  high = λ l. omega (arith, ps.counted);
+  laid = λ old ds H l. subst (HoldsPoints old (progress e ps)) (sym (append-nil ds))
       (record { size = H.size; count = H.count; points = H.points });
 }
 
-pub fine_pushed : (st : ReaderState) (k : ℕ) (w : Letter) (next at : ℕ) (cs xs ys : List ℕ) (c : ℕ) → Coded k w c → st.count < most_points
-    → Fine (held_by st cs xs ys) (held_by (on at (st.count + 1)) (set cs st.count c) (set xs st.count next) (set ys st.count 0))
-    (point k w next 0 ∷ []) at
-fine_pushed st k w next at cs xs ys c e h = record {
-  ok = refl;
-  number = refl;
-  place = refl;
-  at = refl;
-  low = λ l. refl;
-  high = λ l. absurd (omega arith);
-  laid = λ old ds H l. record {
-    size = H.size;
-    count = let n = H.count in let m = length-append ds (point k w next 0 ∷ []) in omega arith;
-    points =
-        points_set cs xs ys st.count c next 0
-        ∙ ap (λ p. set (points_of cs xs ys) st.count p) (e next 0)
-        ∙ (λ i. set (H.points i) (H.count i) (point k w next 0))
-        ∙ over_push old ds (point k w next 0) (let n = H.count in let m = H.size in omega arith);
-  };
-}
+module _ (n : ℕ) (ps : List PointEntry) (k : PointKind) (w : Letter) (next : ℕ) where
+  -- with one point more
+  pub fine_pushed : n < most_points → (a e : ℕ) → Fine (on a n ps) (on e (n + 1) (set ps n (point k w next 0))) (point k w next 0 ∷ []) e
+  fine_pushed h a e = record {
+    ok = refl;
+    refusal = refl;
+    at = refl;
+    low = λ l. refl;
+    high = λ l. absurd (omega arith);
+    laid = λ old ds H l. record {
+      size = H.size;
+      count = let c = H.count in let m = length-append ds (point k w next 0 ∷ []) in omega arith;
+      points =
+          (λ i. set (H.points i) (H.count i) (point k w next 0))
+          ∙ over_push old ds (point k w next 0) (let c = H.count in let m = H.size in omega arith);
+    };
+  }
 
-pub fine_full : (st : ReaderState) (k : ℕ) (w : Letter) (next at : ℕ) (ps : List PointEntry) → most_points ≤ st.count
-    → Fine (progress_of st ps) (progress_of (on at too_many) ps) (point k w next 0 ∷ []) at
-fine_full st k w next at ps h = record {
-  ok = refl;
-  number = refl;
-  place = refl;
-  at = refl;
-  low = λ l. absurd (omega arith);
-  high = λ l. refl;
-  laid = λ old ds H l. absurd (let n = H.count in omega arith);
-}
+  pub fine_full : most_points ≤ n → (a e : ℕ) → Fine (on a n ps) (on e too_many ps) (point k w next 0 ∷ []) e
+  fine_full h a e = record {
+    ok = refl;
+    refusal = refl;
+    at = refl;
+    low = λ l. absurd (omega arith);
+    high = λ l. refl;
+    laid = λ old ds H l. absurd (let c = H.count in omega arith);
+  }
 
 pub fine_count : {st r : Progress} {ps : List PointEntry} {e : ℕ} → Fine st r ps e → r.count ≤ too_many
 fine_count {st} {r} {ps} f = by_test (leb (st.count + length ps) most_points)
@@ -90,8 +85,7 @@ fine_some {st} {r} {ps} f h = by_test (leb (st.count + length ps) most_points)
 pub fine_then : {st q r : Progress} {ps qs : List PointEntry} {a e : ℕ} → Fine st q ps a → Fine q r qs e → Fine st r (ps ++ qs) e
 fine_then {st} {q} {r} {ps} {qs} f g = record {
   ok = g.ok;
-  number = g.number;
-  place = g.place;
+  refusal = g.refusal;
   at = g.at;
   low = λ h. omega (arith, n, f.low (omega (arith, n)), g.low (omega (arith, n, f.low (omega (arith, n)))));
   high = λ h. go (omega (arith, n));
@@ -107,31 +101,22 @@ fine_then {st} {q} {r} {ps} {qs} f g = record {
         (λ t. let l = leb-true (st.count + length ps) most_points t in let c = f.low l in g.high (omega arith))
         λ t. let l = leb-false (st.count + length ps) most_points t in let c = f.high l in g.high (omega arith)
 
--- ---- answers as code holds them
+-- points added one after another
+pub adds_then : (old mid new : Points) {ps qs : List PointEntry} → Adds old mid ps → Adds mid new qs → Adds old new (ps ++ qs)
+adds_then old mid new f g at e = fine_then (f at e) (g e e)
 
-pub settled_at : (e : ℕ) (l : Letter) (st r : Progress) (g : letter.GotLetter) → g ≡ letter.TheVariants.At l e → Fine st r (waiting step_kind l ∷ []) e
-    → Settled st r g
-settled_at e l st r g h f = rw h f
+-- the points of a condition
+module _ (old mid new : Points) (k : PointKind) (c : Condition) (f : Adds mid new (waiting k c.test ∷ [])) where
+  pub adds_posed : {a : Letter} {q : Points} → c.application ≡ Some a → mid ≡ q → Adds old q (point Step a (old.count + 1) 0 ∷ [])
+      → Adds old new (condition_points k c old.count)
+  adds_posed {a} i j g at e =
+      subst (λ o. Fine (progress at old) (progress e new) (leading o old.count ++ waiting k c.test ∷ []) e) (sym i)
+      (adds_then old mid new (subst (λ m. Adds old m (point Step a (old.count + 1) 0 ∷ [])) (sym j) g) f at e)
 
-pub settled_refused : (n p : ℕ) (st r : Progress) (g : letter.GotLetter) → g ≡ letter.TheVariants.Refused n p → RefusedAt r n p → Settled st r g
-settled_refused n p st r g h f = rw h f
-
-pub weighed_compared : (k e : ℕ) (l : Letter) (st r : Progress) (g : held.GotCondition) → g ≡ held.TheVariants.Compared l e → Fine st r (waiting k l ∷ []) e
-    → Weighed k st r g
-weighed_compared k e l st r g h f = rw h f
-
-pub weighed_named : (k e : ℕ) (a l : Letter) (st q r : Progress) (g : held.GotCondition) → g ≡ held.TheVariants.Named a l e
-    → Fine st q (applying a st.count ∷ []) e → Fine q r (waiting k l ∷ []) e → Weighed k st r g
-weighed_named k e a l st q r g h f i = rw h (fine_then f i)
-
-pub weighed_refused : (k n p : ℕ) (st r : Progress) (g : held.GotCondition) → g ≡ held.TheVariants.Refused n p → RefusedAt r n p → Weighed k st r g
-weighed_refused k n p st r g h f = rw h f
-
-pub passed_at : (v e : ℕ) (st r : Progress) (g : number.GotNumber) → g ≡ number.TheVariants.At v e → Fine st r [] e → Passed st r g
-passed_at v e st r g h f = rw h f
-
-pub passed_refused : (n p : ℕ) (st r : Progress) (g : number.GotNumber) → g ≡ number.TheVariants.Refused n p → RefusedAt r n p → Passed st r g
-passed_refused n p st r g h f = rw h f
+  pub adds_tested : c.application ≡ None → mid ≡ old → Adds old new (condition_points k c old.count)
+  adds_tested i j at e =
+      subst (λ o. Fine (progress at old) (progress e new) (leading o old.count ++ waiting k c.test ∷ []) e) (sym i)
+      (subst (λ m. Fine (progress at m) (progress e new) (waiting k c.test ∷ []) e) j (f at e))
 
 -- ---- a reading that came out well, or not
 
@@ -163,47 +148,38 @@ pub fine_changed : {st q : Progress} {ps : List PointEntry} {e : ℕ} (n : ℕ) 
     → Fine st (changed q n xs) qs e
 fine_changed {st} {q} {ps} n xs qs f h k = record {
   ok = f.ok;
-  number = f.number;
-  place = f.place;
+  refusal = f.refusal;
   at = f.at;
   low = λ l. f.low (omega arith) ∙ ap (λ m. st.count + m) (sym h);
   high = λ l. f.high (omega arith);
   laid = λ old ds H l. k old ds H (omega arith) (f.laid old ds H (omega arith));
 }
 
--- ---- what the changes to the arrays make of the points
+-- ---- what the changes to the table make of reading
 
--- a change to both arrays of what follows is a change to the points
-points_changed : (count n : ℕ) (cs xs ys xs' ys' : List ℕ) (ps : List PointEntry) → points_of cs xs' ys' ≡ ps
-    → points_of cs (changed_to count n xs' xs) (changed_to count n ys' ys) ≡ changed_to count n ps (points_of cs xs ys)
-points_changed count n cs xs ys xs' ys' ps e =
-    by_test (ltb most_points count) (λ t. rw t refl) λ t. rw t (by_test (leb count n) (λ u. rw u refl) λ u. rw u e)
+module _ (e : ℕ) (old new : Points) (c : new.count ≡ old.count) where
+  table_changed : {ps : List PointEntry} → new.entries ≡ ps → progress e new ≡ with_points (progress e old) ps
+  table_changed p = λ i. record { ok = true; refusal = None; at = e; count = c i; points = p i }
 
-module _ (q : ReaderState) (cs xs ys xs' ys' : List ℕ) where
-  pub points_joined : (from to : ℕ) → xs' ≡ changed_to q.count to (each (backpatched_in from to to) xs) xs
-      → ys' ≡ changed_to q.count to (each (backpatched_in from to to) ys) ys → held_by q cs xs' ys' ≡ joined (held_by q cs xs ys) from to
+  pub points_joined : (from to : ℕ) → new.entries ≡ changed_to old.count to (each (within from to to) old.entries) old.entries
+      → progress e new ≡ joined (progress e old) from to
   unfolding joined
-  points_joined from to e f =
-      (λ i. held_by q cs (e i) (f i)) ∙ ap (progress_of q) (points_changed q.count to cs xs ys _ _ _ (points_range cs xs ys from to to))
+  points_joined from to p = table_changed p
 
-  pub points_branched : (test mid : ℕ) → xs' ≡ changed_to q.count test (set xs test (begins (test + 1) mid unknown)) xs
-      → ys' ≡ changed_to q.count test (set ys test (begins mid q.count unknown)) ys → held_by q cs xs' ys' ≡ branched (held_by q cs xs ys) test mid
+  pub points_branched : (test mid : ℕ)
+      → new.entries ≡ changed_to old.count test (forked old.entries test (begins (test + 1) mid unknown) (begins mid old.count unknown)) old.entries
+      → progress e new ≡ branched (progress e old) test mid
   unfolding branched
-  points_branched test mid e f =
-      (λ i. held_by q cs (e i) (f i)) ∙ ap (progress_of q) (points_changed q.count test cs xs ys _ _ _ (points_forked cs xs ys test _ _))
+  points_branched test mid p = table_changed p
 
   pub points_looped : (test back : ℕ)
-      → xs' ≡ changed_to q.count test (set (each (backpatched_in (test + 1) q.count back) xs) test (begins (test + 1) q.count back)) xs
-      → ys' ≡ changed_to q.count test (set (each (backpatched_in (test + 1) q.count back) ys) test unknown) ys
-      → held_by q cs xs' ys' ≡ looped (held_by q cs xs ys) test back
+      → new.entries ≡ changed_to old.count test
+      (forked (each (within (test + 1) old.count back) old.entries) test (begins (test + 1) old.count back) unknown) old.entries
+      → progress e new ≡ looped (progress e old) test back
   unfolding looped
-  points_looped test back e f =
-      (λ i. held_by q cs (e i) (f i))
-      ∙ ap (progress_of q) (points_changed q.count test cs xs ys _ _ _
-      (points_forked cs _ _ test _ _ ∙ ap (λ ps. forked ps test (begins (test + 1) q.count back) unknown)
-      (points_range cs xs ys (test + 1) q.count back)))
+  points_looped test back p = table_changed p
 
--- ---- what the arrays hold, whatever stood in them
+-- ---- what the table holds, whatever stood in it
 
 -- any table of 256 entries holds its first points
 pub lent_holds : (st : Progress) → length st.points ≡ most_points → st.count ≤ most_points → HoldsPoints st.points st (take st.count st.points)

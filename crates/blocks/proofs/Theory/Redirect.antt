@@ -15,8 +15,8 @@ use Rattle.grammar.specs.Tree as written
 use Rattle.grammar.specs.Expanded.{◌before◌, application, comparison, after, loop, expanded_statement, expanded_else, expanded_block}
 use Rattle.grammar.proofs.Theory.Expanded.{size_before, compile_before}
 use Rattle.phrases.specs.Codes.{test_of}
-use Rattle.blocks.specs.Held.{step_kind, check_kind, fork_kind, point, held_point, unknown, backpatched}
-use Rattle.blocks.proofs.Theory.Held.{redirected}
+use Rattle.blocks.specs.Held.{point, held_point, unknown, backpatched, redirected}
+use Rattle.blocks.specs.declared.PointKind.TheVariants.{Step, Check, Fork}
 use Rattle.blocks.specs.Outcome.{applying, statement_code, block_code}
 use Rattle.blocks.proofs.Theory.Outcome.{lead, condition_code}
 use Rattle.blocks.proofs.Theory.TableLaws.{map-append}
@@ -51,7 +51,7 @@ mutual
   redirect_statement f g (assert c) base h = refl
   redirect_statement f g (if c b e) base h =
       let n = size_block b in let m = size_else e in
-      λ i. point fork_kind (test c) (turned_entry f g n (base + 1) (omega arith) i) (turned_entry f g m (base + 1 + n) (omega arith) i) ∷
+      λ i. point Fork (test c) (turned_entry f g n (base + 1) (omega arith) i) (turned_entry f g m (base + 1 + n) (omega arith) i) ∷
       (ap (map (redirected f)) (map-append held_point (compile_block b (base + 1) g) (compile_else e (base + 1 + n) g))
       ∙ map-append (redirected f) (block_held b (base + 1) g) (else_held e (base + 1 + n) g)
       ∙ ap (λ l. l ++ map (redirected f) (else_held e (base + 1 + n) g)) (redirect_block f g b (base + 1) (omega arith))
@@ -59,12 +59,12 @@ mutual
       ∙ sym (map-append held_point (compile_block b (base + 1) (backpatched f g)) (compile_else e (base + 1 + n) (backpatched f g)))) i
   redirect_statement f g (while c b) base h =
       let n = size_block b in let low = turned_low f base (omega arith) in
-      λ i. point fork_kind (test c) ((turned_entry f base n (base + 1) (omega arith) ∙ ap (entry n (base + 1)) low) i) (backpatched f g) ∷
+      λ i. point Fork (test c) ((turned_entry f base n (base + 1) (omega arith) ∙ ap (entry n (base + 1)) low) i) (backpatched f g) ∷
       (redirect_block f base b (base + 1) (omega arith) ∙ ap (block_held b (base + 1)) low) i
   redirect_statement f g (while_after a c b) base h =
       let n = size_block b in let low = turned_low f base (omega arith) in
-      λ i. point step_kind a (turned_low f (base + 1) (omega arith) i) 0 ∷
-      point fork_kind (test c) ((turned_entry f base n (base + 2) (omega arith) ∙ ap (entry n (base + 2)) low) i) (backpatched f g) ∷
+      λ i. point Step a (turned_low f (base + 1) (omega arith) i) 0 ∷
+      point Fork (test c) ((turned_entry f base n (base + 2) (omega arith) ∙ ap (entry n (base + 2)) low) i) (backpatched f g) ∷
       (redirect_block f base b (base + 2) (omega arith) ∙ ap (block_held b (base + 2)) low) i
 
   pub redirect_else : (f g : ℕ) (e : Else) (base : ℕ) → base + size_else e ≤ most_points
@@ -175,26 +175,26 @@ after_code n none s base h =
     let e : base ≡ base + 0 = omega arith in
     ap (map held_point) (append-nil (compile s base _)) ∙ (λ i. statement_held s (e i) (entry_none (base + size_statement s) unknown i))
 after_code n (some a) s base h =
-    λ i. point step_kind a (entry_some (size_statement s + 0) (base + 1) unknown (omega arith) i) 0 ∷
+    λ i. point Step a (entry_some (size_statement s + 0) (base + 1) unknown (omega arith) i) 0 ∷
     (ap (map held_point) (append-nil (compile s (base + 1) _)) ∙ ap (statement_held s (base + 1)) (entry_none (base + 1 + size_statement s) unknown)) i
 
-pub assume_code : (n : ℕ) (c : written.Condition) (base : ℕ) → statement_code n (written.assume c) base ≡ condition_code step_kind n c base
+pub assume_code : (n : ℕ) (c : written.Condition) (base : ℕ) → statement_code n (written.assume c) base ≡ condition_code Step n c base
 unfolding statement_code expanded_statement compile size_statement
 assume_code n c base = after_code n (application n c) (perform (test (comparison n c))) base (omega arith)
 
-pub assert_code : (n : ℕ) (c : written.Condition) (base : ℕ) → statement_code n (written.assert c) base ≡ condition_code check_kind n c base
+pub assert_code : (n : ℕ) (c : written.Condition) (base : ℕ) → statement_code n (written.assert c) base ≡ condition_code Check n c base
 unfolding statement_code expanded_statement compile size_statement
 assert_code n c base = after_code n (application n c) (assert (comparison n c)) base (omega arith)
 
 -- a fork at the number `test`, and its blocks
 abbrev pub branch_held : Letter → Block → Else → ℕ → List PointEntry
 branch_held l b e test =
-    point fork_kind l (entry (size_block b) (test + 1) unknown) (entry (size_else e) (test + 1 + size_block b) unknown) ∷
+    point Fork l (entry (size_block b) (test + 1) unknown) (entry (size_else e) (test + 1 + size_block b) unknown) ∷
     (block_held b (test + 1) unknown ++ else_held e (test + 1 + size_block b) unknown)
 
 -- a fork at the number `test`, and its block, which `back` follows
 abbrev pub loop_held : Letter → Block → ℕ → ℕ → List PointEntry
-loop_held l b test back = point fork_kind l (entry (size_block b) (test + 1) back) unknown ∷ block_held b (test + 1) back
+loop_held l b test back = point Fork l (entry (size_block b) (test + 1) back) unknown ∷ block_held b (test + 1) back
 
 module _ (n : ℕ) (c : written.Condition) (b : written.Block) (base : ℕ) where
   -- the points before the test's
@@ -207,7 +207,7 @@ module _ (n : ℕ) (c : written.Condition) (b : written.Block) (base : ℕ) wher
   if_code e =
       let t = base + length before_test in
       after_code n (application n c) (if (comparison n c) (expanded_block n b) (expanded_else n e)) base (omega arith)
-      ∙ ap (λ l. before_test ++ point fork_kind (test_of n c) (entry (size_block (expanded_block n b)) (t + 1) unknown)
+      ∙ ap (λ l. before_test ++ point Fork (test_of n c) (entry (size_block (expanded_block n b)) (t + 1) unknown)
       (entry (size_else (expanded_else n e)) (t + 1 + size_block (expanded_block n b)) unknown) ∷ l)
       (map-append held_point (compile_block (expanded_block n b) (t + 1) unknown)
       (compile_else (expanded_else n e) (t + 1 + size_block (expanded_block n b)) unknown))
@@ -220,11 +220,11 @@ module _ (n : ℕ) (c : written.Condition) (b : written.Block) (base : ℕ) wher
           ≡ lead o base ++ loop_held (test_of n c) (expanded_block n b) (base + length (lead o base)) base
       go none = let e : base ≡ base + 0 = omega arith in
           ap (map held_point) (append-nil (compile (while (comparison n c) (expanded_block n b)) base _))
-          ∙ (λ i. point fork_kind (test_of n c) (entry (size_block (expanded_block n b)) (e i + 1) base) unknown ∷
+          ∙ (λ i. point Fork (test_of n c) (entry (size_block (expanded_block n b)) (e i + 1) base) unknown ∷
           block_held (expanded_block n b) (e i + 1) base)
       go (some a) = let e : base + 2 ≡ base + 1 + 1 = omega arith in
           ap (map held_point) (append-nil (compile (while_after a (comparison n c) (expanded_block n b)) base _))
-          ∙ (λ i. applying a base ∷ point fork_kind (test_of n c) (entry (size_block (expanded_block n b)) (e i) base) unknown ∷
+          ∙ (λ i. applying a base ∷ point Fork (test_of n c) (entry (size_block (expanded_block n b)) (e i) base) unknown ∷
           block_held (expanded_block n b) (e i) base)
 
 -- the points of the block of a while, which `back` follows

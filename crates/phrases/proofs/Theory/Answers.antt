@@ -1,167 +1,130 @@
 -- The laws of answers as the code holds them.
-use mathlib.Core.Path.{◌≡◌, refl, sym, ap, ◌∙◌}
-use Prim.Native.Nat.{ℕ, suc, ◌+◌, ◌≤◌, ◌<◌}
-use native.Mathlib.Omega.{arith}
-use native.Mathlib.Numerals.{add-one}
-use mathlib.Core.Bool.{Bool, true, false, ◌&&◌}
-use mathlib.Core.List.{List}
-use mathlib.Core.Option.{Option, none, some}
-use lib.Dec.{ltb, leb}
-use lib.ListN.{length, get_or, drop, drop_of_length-le}
-use lib.Seq.{drop-cons}
-use borrow.Author.Tests.{ltb-true, le-leb}
+use Rattle.std.proofs.Common.{◌≡◌, ℕ, ◌+◌, ◌<◌, ◌≤◌, Bool, true, false, List, ◌∷◌, length, refl, sym, ap, ◌∙◌, arith, cond, ltb, leb, ◌⊎◌, inl, inr}
+use Rattle.std.proofs.Common.{Result, Ok, Err, Option, Some, None}
+use borrow.Author.Tests.{lt-ltb, le-ltb, le-leb, lt-leb, ltb-false}
+use Rattle.std.specs.List.{position, position_or_len}
+use Rattle.std.specs.Option.{is_some}
+use Rattle.std.specs.Result.{IsErr, IsErrAnd}
+use Rattle.std.proofs.lemmas.Result.{err_from_is_err_and}
+use Rattle.std.proofs.lemmas.List.Recursion.{is_position_or_len}
 use Rattle.base.proofs.Theory.Choice.{by_test}
-use Rattle.letters.specs.declared.Letter.{Letter}
+use Rattle.letters.specs.MacroRefusalNumbers.{use_wrong}
+use Rattle.letters.specs.declared.reasons.Refused.{Refused}
 use Rattle.tokens.specs.declared.Token.{Token}
-use Rattle.tokens.specs.Words.{is_name, same_name}
-use Rattle.grammar.specs.Tree.{Condition}
-use Rattle.grammar.specs.Expanded.{application}
+use Rattle.tokens.specs.Words.{same_name, is_name}
 use Rattle.grammar.specs.Reading as reading
-use Rattle.phrases.specs.Codes.{coded, plain, without_value, lettered, carried, letter_then, kind, comparing, test_of, posed, asked, as_comparison, as_named}
-use Rattle.phrases.specs.declared.GotNumber.{GotNumber}
-use Rattle.phrases.specs.declared.GotNumber.TheVariants.{At, Refused}
-use Rattle.phrases.specs.declared.GotLetter.{GotLetter}
-use Rattle.phrases.specs.declared.GotLetter.TheVariants as letter
-use Rattle.phrases.specs.declared.GotCondition.{GotCondition}
-use Rattle.phrases.specs.declared.GotCondition.TheVariants as condition
+use Rattle.phrases.specs.Codes.{refused_as, unfit, read_as, coded, plain, without_value, sign_of, comparing, test_of}
 
 -- ---- the place of a name in a list
 
--- what is left of the list at the place i
-abbrev pub Sought : List ℕ → ℕ → ℕ → Type 0
-Sought l k i = reading.index_of k l ≡ i + reading.index_of k (drop i l)
+index_is : (k : ℕ) (l : List ℕ) → reading.index_of k l ≡ position_or_len (λ x. same_name k x) l
+unfolding reading.index_of
+index_is k l = is_position_or_len (reading.index_of k) (λ x. same_name k x) refl one l
+  where
+    one : (x : ℕ) (xs : List ℕ) → reading.index_of k (x ∷ xs) ≡ cond (same_name k x) 0 (1 + reading.index_of k xs)
+    one x xs = by_test (same_name k x) (λ t. rw t refl) λ t. rw t (omega arith)
 
-module _ (l : List ℕ) (k i : ℕ) where
-  pub sought_ended : length l ≤ i → Sought l k i → i ≡ reading.index_of k l
-  unfolding reading.index_of
-  sought_ended h e = let f : reading.index_of k (drop i l) ≡ 0 = rw (drop_of_length-le l h) in omega arith
+pub found : (k : ℕ) (l : List ℕ) → position (λ x. same_name k x) l ≡ cond (reading.is_declared k l) (Some (reading.index_of k l)) None
+found k l = rw index_is refl
 
-  module _ (r : Bool) (e : r ≡ same_name k (get_or l i 0)) (h : i < length l) where
-    pub sought_hit : r ≡ true → Sought l k i → i ≡ reading.index_of k l
-    unfolding reading.index_of
-    sought_hit g s = let f : reading.index_of k (drop i l) ≡ 0 = rw (drop-cons l i 0 h, ← e, g) in omega arith
-
-    pub sought_turn : r ≡ false → Sought l k i → Sought l k (i + 1)
-    unfolding reading.index_of
-    sought_turn g s = let f : reading.index_of k (drop i l) ≡ suc (reading.index_of k (drop (i + 1) l)) = rw (add-one, drop-cons l i 0 h, ← e, g) in omega arith
-
--- ---- what stands behind an answer that is no refusal
-
-pub coded_at : {A : Type 0} (f : A → ℕ) (g : reading.Got A) (r : GotNumber) (v e : ℕ) → r ≡ coded f g → r ≡ At v e → (a : A) × (g ≡ reading.got a e) × (v ≡ f a)
-coded_at f (reading.got a e') r v e p q = (a, (cc), (cc))
-coded_at f (reading.refused n p') r v e p q = let z : ◌≡◌ {A = ℕ} 0 1 = cc in absurd (omega arith)
-coded_at f reading.exhausted r v e p q = let z : ◌≡◌ {A = ℕ} 0 1 = cc in absurd (omega arith)
-
-pub lettered_at : {A : Type 0} (f : A → Letter) (g : reading.Got A) (r : GotLetter) (l : Letter) (e : ℕ) → r ≡ lettered f g → r ≡ letter.At l e
-    → (a : A) × (g ≡ reading.got a e) × (l ≡ f a)
-lettered_at f (reading.got a e') r l e p q = (a, (cc), (cc))
-lettered_at f (reading.refused n p') r l e p q = let z : ◌≡◌ {A = ℕ} 0 1 = cc in absurd (omega arith)
-lettered_at f reading.exhausted r l e p q = let z : ◌≡◌ {A = ℕ} 0 1 = cc in absurd (omega arith)
+pub known : (k : ℕ) (l : List ℕ) → is_some (position (λ x. same_name k x) l) ≡ reading.is_declared k l
+known k l = ap is_some (found k l) ∙ one (reading.is_declared k l)
+  where
+    one : (b : Bool) → is_some (cond b (Some (reading.index_of k l)) None) ≡ b
+    one true = refl
+    one false = refl
 
 -- ---- a refusal stands, whatever would have followed
 
-pub coded_refused : {A B : Type 0} (f : A → ℕ) (h : B → Letter) (g : reading.Got A) (k : A → ℕ → reading.Got B) (r : GotNumber) (n p : ℕ) (q : GotLetter)
-    → r ≡ coded f g → r ≡ Refused n p → q ≡ carried r → q ≡ lettered h (reading.and_then g k)
-coded_refused f h (reading.got a e) k r n p q i j c = let z : ◌≡◌ {A = ℕ} 0 1 = cc in absurd (omega arith)
-coded_refused f h (reading.refused m o) k r n p q i j c = c ∙ ap carried i
-coded_refused f h reading.exhausted k r n p q i j c = c ∙ ap carried i
+pub refused_on : {A B X Y : Type 0} (f : A → ℕ → X) (h : B → ℕ → Y) (g : reading.Got A) (k : A → ℕ → reading.Got B) {r : Result X Refused} {e : Refused}
+    → r ≡ read_as f g → r ≡ Err e → Err e ≡ read_as h (reading.and_then g k)
+refused_on f h (reading.got a p) k i j = cc
+refused_on f h (reading.refused n p) k i j = cc
+refused_on f h reading.exhausted k i j = cc
 
-pub lettered_refused : {A B : Type 0} (f : A → Letter) (h : B → Letter) (g : reading.Got A) (k : A → ℕ → reading.Got B) (r : GotLetter) (n p : ℕ)
-    → r ≡ lettered f g → r ≡ letter.Refused n p → r ≡ lettered h (reading.and_then g k)
-lettered_refused f h (reading.got a e) k r n p i j = let z : ◌≡◌ {A = ℕ} 0 1 = cc in absurd (omega arith)
-lettered_refused f h (reading.refused m o) k r n p i j = i
-lettered_refused f h reading.exhausted k r n p i j = i
+-- the same at the exit of a `?`
+pub passed_on : {A B X Y : Type 0} (f : A → ℕ → X) (h : B → ℕ → Y) (g : reading.Got A) (k : A → ℕ → reading.Got B) {r : Result X Refused} {e : Refused}
+    {w : Result Y Refused} → r ≡ read_as f g → r ≡ Err e → IsErr w × IsErrAnd w (λ d. d ≡ e) → w ≡ read_as h (reading.and_then g k)
+passed_on f h g k {w = w} i j o =
+    let (d, p, q) = err_from_is_err_and w o.1 in
+    p ∙ ap Err q ∙ refused_on f h g k i j
 
--- a place that is used lies within its bounds
-pub use_below : (l : List ℕ) (from to : ℕ) (t : Token) (r : GotNumber) (i e : ℕ) → r ≡ plain (reading.use_between l from to t) → r ≡ At i e → i < to
-use_below l from to t r i e =
-    by_test (is_name t.key) (λ a. rw a (by_test (leb from (reading.index_of t.key l) && ltb (reading.index_of t.key l) to)
-    (λ b. rw b λ p q. let j : i ≡ reading.index_of t.key l = cc in omega
-    (arith, ltb-true (reading.index_of t.key l) to (both (leb from (reading.index_of t.key l)) _ b)))
-    λ b. rw b λ p q. let z : ◌≡◌ {A = ℕ} 0 1 = cc in absurd (omega arith)))
-    λ a. rw a λ p q. let z : ◌≡◌ {A = ℕ} 0 1 = cc in absurd (omega arith)
-  where
-    both : (a b : Bool) → (a && b) ≡ true → b ≡ true
-    both true b h = h
-    both false b h = let z : ◌≡◌ {A = ℕ} 0 1 = cc in absurd (omega arith)
+-- ---- what stands behind an answer that is no refusal
 
--- any name of a list is used between its ends
-pub use_whole : (l : List ℕ) (t : Token) → reading.use_between l 0 (length l) t ≡ reading.use_t l t
-use_whole l t = rw (le-leb 0 (reading.index_of t.key l) (omega arith))
+pub coded_on : {A X : Type 0} (f : A → X) (g : reading.Got A) {r : Result (X × ℕ) Refused} {x : X} {e : ℕ} → r ≡ coded f g → r ≡ Ok (x, e)
+    → (a : A) × (g ≡ reading.got a e) × (x ≡ f a)
+coded_on {X = X} f (reading.got a e') {x = x} {e = e} i j =
+    let h : ◌≡◌ {A = X × ℕ} (x, e) (f a, e') = cc in
+    (a, ap (reading.got a) (sym (ap (λ (p : X × ℕ). p.1) h)), ap (λ (p : X × ℕ). p.0) h)
+coded_on f (reading.refused n p) i j = absurd (cc)
+coded_on f reading.exhausted i j = absurd (cc)
 
--- a sign's number makes the test that the sign makes
-pub compared_test : (n : ℕ) (q : Bool) (x y : ℕ) → comparing (kind q) x y ≡ test_of n (reading.compared q x y)
-compared_test n true x y = refl
-compared_test n false x y = refl
+pub plain_on : (g : reading.Got ℕ) {r : Result (ℕ × ℕ) Refused} {x e : ℕ} → r ≡ plain g → r ≡ Ok (x, e) → g ≡ reading.got x e
+plain_on g i j = let (y, h, k) = coded_on (λ n. n) g i j in rw k h
 
-pub carried_refused : (g : GotNumber) (n p : ℕ) → g ≡ Refused n p → letter.Refused n p ≡ carried g
-carried_refused g n p h = rw h
-
-pub letter_then_at : (l : Letter) (g : GotNumber) (v e : ℕ) → g ≡ At v e → letter.At l e ≡ letter_then l g
-letter_then_at l g v e h = rw h
-
-pub letter_then_refused : (l : Letter) (g : GotNumber) (n p : ℕ) → g ≡ Refused n p → letter.Refused n p ≡ letter_then l g
-letter_then_refused l g n p h = rw h
+pub place_on : (g : reading.Got (Unit {0})) {r : Result ℕ Refused} {e : ℕ} → r ≡ without_value g → r ≡ Ok e → g ≡ reading.got tt e
+place_on (reading.got a e') {e = e} i j = let h : e' ≡ e = cc in ap (reading.got tt) h
+place_on (reading.refused n p) i j = absurd (cc)
+place_on reading.exhausted i j = absurd (cc)
 
 -- ---- conditions
 
-module _ (g : GotLetter) where
-  pub compared_at : (l : Letter) (e : ℕ) → g ≡ letter.At l e → condition.Compared l e ≡ as_comparison g
-  compared_at l e h = rw h
+-- a sign makes the test that it stands for
+pub compared_test : (n : ℕ) (q : Bool) (x y : ℕ) → comparing (sign_of q) x y ≡ test_of n (reading.compared q x y)
+compared_test n true x y = refl
+compared_test n false x y = refl
 
-  pub compared_refused : (n p : ℕ) → g ≡ letter.Refused n p → condition.Refused n p ≡ as_comparison g
-  compared_refused n p h = rw h
+-- ---- a use
 
-  pub named_at : (c l : Letter) (e : ℕ) → g ≡ letter.At l e → condition.Named l c e ≡ as_named c g
-  named_at c l e h = rw h
+module _ (l : List ℕ) (t : Token) where
+  pub used_some : {r : Option ℕ} {i : ℕ} → is_name t.key ≡ true → r ≡ position (λ x. same_name t.key x) l → r ≡ Some i → Ok (i, t.end) ≡ plain
+      (reading.use_t l t)
+  used_some {r} {i} n e j =
+      let f : r ≡ cond (reading.is_declared t.key l) (Some (reading.index_of t.key l)) None = e ∙ found t.key l in
+      by_test (reading.is_declared t.key l)
+      (λ d. let g = rw d at f in let h : reading.index_of t.key l ≡ i = cc in rw (n, d, h) refl)
+      λ d. let g = rw d at f in absurd (cc)
 
-  pub named_refused : (c : Letter) (n p : ℕ) → g ≡ letter.Refused n p → condition.Refused n p ≡ as_named c g
-  named_refused c n p h = rw h
+  pub used_none : {r : Option ℕ} → is_name t.key ≡ true → r ≡ position (λ x. same_name t.key x) l → r ≡ None
+      → Err (refused_as use_wrong t.start) ≡ plain (reading.use_t l t)
+  used_none {r} n e j =
+      let f : r ≡ cond (reading.is_declared t.key l) (Some (reading.index_of t.key l)) None = e ∙ found t.key l in
+      by_test (reading.is_declared t.key l) (λ d. let g = rw d at f in absurd (cc)) λ d. rw (n, d) refl
 
--- what stands behind a condition that was read
-posed_compared : (o : Option Letter) (t : Letter) (e : ℕ) (g : GotCondition) (l : Letter) (a : ℕ) → g ≡ posed o t e → g ≡ condition.Compared l a
-    → (o ≡ none) × (l ≡ t) × (a ≡ e)
-posed_compared none t e g l a p q = (refl, (cc), (cc))
-posed_compared (some b) t e g l a p q = let z : ◌≡◌ {A = ℕ} 0 1 = cc in absurd (omega arith)
+  pub unused : {e : Refused} → is_name t.key ≡ false → e ≡ unfit t → Err e ≡ plain (reading.use_t l t)
+  unused n e = rw (n, e) refl
 
-posed_named : (o : Option Letter) (t : Letter) (e : ℕ) (g : GotCondition) (b l : Letter) (a : ℕ) → g ≡ posed o t e → g ≡ condition.Named b l a
-    → (o ≡ some b) × (l ≡ t) × (a ≡ e)
-posed_named none t e g b l a p q = let z : ◌≡◌ {A = ℕ} 0 1 = cc in absurd (omega arith)
-posed_named (some c) t e g b l a p q = let z : c ≡ b = cc in (ap some z, (cc), (cc))
+  -- a use that was read
+  used : {f e : ℕ} → reading.use_t l t ≡ reading.got f e → (is_name t.key ≡ true) × (reading.index_of t.key l ≡ f) × (t.end ≡ e)
+  used {f} {e} h =
+      by_test (is_name t.key)
+      (λ n. let g = rw n at h in by_test (reading.is_declared t.key l)
+      (λ d. let k = rw d at g in (n, (cc), (cc)))
+      λ d. let k = rw d at g in absurd (cc))
+      λ n. let g = rw n at h in absurd (cc)
 
-pub asked_compared : (n : ℕ) (r : reading.Got Condition) (g : GotCondition) (l : Letter) (a : ℕ) → g ≡ asked n r → g ≡ condition.Compared l a
-    → (c : Condition) × (r ≡ reading.got c a) × (application n c ≡ none) × (l ≡ test_of n c)
-asked_compared n (reading.got c e) g l a p q = let (x, y, z) = posed_compared (application n c) (test_of n c) e g l a p q in
-    (c, ap (reading.got c) (sym z), x, y)
-asked_compared n (reading.refused m o) g l a p q = let z : ◌≡◌ {A = ℕ} 0 1 = cc in absurd (omega arith)
-asked_compared n reading.exhausted g l a p q = let z : ◌≡◌ {A = ℕ} 0 1 = cc in absurd (omega arith)
+  module _ (from to : ℕ) where
+    pub between_within : {r : Result (ℕ × ℕ) Refused} {f e : ℕ} → r ≡ plain (reading.use_t l t) → r ≡ Ok (f, e) → from ≤ f → f < to
+        → Ok (f, e) ≡ plain (reading.use_between l from to t)
+    between_within {f = f} i j low high =
+        let (n, x, y) = used (plain_on (reading.use_t l t) i j) in
+        rw (n, x, le-leb from f low, lt-ltb f to high, y) refl
 
-pub asked_named : (n : ℕ) (r : reading.Got Condition) (g : GotCondition) (b l : Letter) (a : ℕ) → g ≡ asked n r → g ≡ condition.Named b l a
-    → (c : Condition) × (r ≡ reading.got c a) × (application n c ≡ some b) × (l ≡ test_of n c)
-asked_named n (reading.got c e) g b l a p q = let (x, y, z) = posed_named (application n c) (test_of n c) e g b l a p q in
-    (c, ap (reading.got c) (sym z), x, y)
-asked_named n (reading.refused m o) g b l a p q = let z : ◌≡◌ {A = ℕ} 0 1 = cc in absurd (omega arith)
-asked_named n reading.exhausted g b l a p q = let z : ◌≡◌ {A = ℕ} 0 1 = cc in absurd (omega arith)
+    pub between_outside : {r : Result (ℕ × ℕ) Refused} {f e : ℕ} → r ≡ plain (reading.use_t l t) → r ≡ Ok (f, e) → (f < from) ⊎ (to ≤ f)
+        → Err (refused_as use_wrong t.start) ≡ plain (reading.use_between l from to t)
+    between_outside {f = f} i j out =
+        let (n, x, y) = used (plain_on (reading.use_t l t) i j) in
+        rw (n, x) (elim out [ inl h ↦ rw (lt-leb from f h) refl | inr h ↦ rw (le-ltb f to h) (by_test (leb from f) (λ b. rw b refl) λ b. rw b refl) ])
 
-pub asked_refused : (n : ℕ) (r : reading.Got Condition) (k : Condition → ℕ → reading.Got Condition) (g : GotCondition) (m p : ℕ)
-    → g ≡ asked n r → g ≡ condition.Refused m p → g ≡ asked n (reading.and_then r k)
-asked_refused n (reading.got c e) k g m p i j = absurd (unposed (application n c) i)
-  where
-    unposed : (o : Option Letter) → g ≡ posed o (test_of n c) e → ⊥
-    unposed none i = let z : ◌≡◌ {A = ℕ} 0 1 = cc in omega arith
-    unposed (some b) i = let z : ◌≡◌ {A = ℕ} 0 1 = cc in omega arith
-asked_refused n (reading.refused o q) k g m p i j = i
-asked_refused n reading.exhausted k g m p i j = i
-
--- a condition that was read, and then something with no value
-pub asked_then_compared : (n : ℕ) (c : Condition) (x : reading.Got (Unit {0})) → application n c ≡ none
-    → as_comparison (letter_then (test_of n c) (without_value x)) ≡ asked n (reading.and_then x λ _ e. reading.got c e)
-asked_then_compared n c (reading.got u e) h = rw h
-asked_then_compared n c (reading.refused m p) h = refl
-asked_then_compared n c reading.exhausted h = refl
-
-pub asked_then_named : (n : ℕ) (c : Condition) (b : Letter) (x : reading.Got (Unit {0})) → application n c ≡ some b
-    → as_named (test_of n c) (letter_then b (without_value x)) ≡ asked n (reading.and_then x λ _ e. reading.got c e)
-asked_then_named n c b (reading.got u e) h = rw h
-asked_then_named n c b (reading.refused m p) h = refl
-asked_then_named n c b reading.exhausted h = refl
+    pub between_refused : {r w : Result (ℕ × ℕ) Refused} {e : Refused} → to ≤ length l → r ≡ plain (reading.use_t l t) → r ≡ Err e
+        → IsErr w × IsErrAnd w (λ d. d ≡ e) → w ≡ plain (reading.use_between l from to t)
+    between_refused {r} {w} {e} few i j o =
+        let (d, p, q) = err_from_is_err_and w o.1 in
+        p ∙ ap Err q ∙ by_test (is_name t.key)
+        (λ n. let g = rw n at i in by_test (reading.is_declared t.key l)
+        (λ d. let k = rw d at g in absurd (cc))
+        λ d. let k = rw d at g in
+        let h : ltb (reading.index_of t.key l) to ≡ false = le-ltb (reading.index_of t.key l) to (omega (arith, ltb-false (reading.index_of t.key l)
+            (length l) d)) in
+        rw (n, h) (by_test (leb from (reading.index_of t.key l)) (λ b. rw b (cc)) λ b. rw b (cc)))
+        λ n. let g = rw n at i in rw n (cc)

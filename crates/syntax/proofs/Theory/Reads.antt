@@ -12,11 +12,17 @@ use Rattle.grammar.specs.Reading.{Got, got, exhausted}
 use Rattle.grammar.proofs.Theory.Reading.{read_macro}
 use Rattle.grammar.proofs.Theory.Enough.{read_answers}
 use Rattle.refusals.specs.Order.{Refusal}
-use Rattle.refusals.proofs.Theory.Order.{refused_refusal, refusal_refused, refusal_number}
+use Rattle.refusals.proofs.Theory.Order.{refused_refusal, refusal_refused, refusal_number, refusal_at_most}
 use Rattle.refusals.specs.Accepted.{Accepted}
 use Rattle.refusals.proofs.Theory.Accepted.{read_accepted, accepted_read}
 use Rattle.syntax.specs.declared.MacroRead.{MacroRead}
-use Rattle.syntax.specs.Answer.{held_macro, no_macro, held_reading}
+use Rattle.std.proofs.Common.{Result, Ok, Err, ◌≤◌}
+use Rattle.letters.specs.Reasons.{number_of}
+use Rattle.letters.specs.declared.reasons.Refused.{Refused}
+use Rattle.letters.proofs.Theory.ReasonLaws.{number_of-reason_of}
+use Rattle.phrases.specs.Codes.{refused_as}
+use Rattle.syntax.specs.declared.CompiledMacro.{CompiledMacro}
+use Rattle.syntax.specs.Answer.{held_macro, no_macro, held_answer, held_reading}
 use Rattle.syntax.specs.Reads.{Reads}
 
 module _ (text : List ℕ) (r : MacroRead) (e : r ≡ held_reading (read_macro text)) where
@@ -48,6 +54,32 @@ module _ (text : List ℕ) (r : MacroRead) (e : r ≡ held_reading (read_macro t
           let (a, b, c) = as_refused n p h in
           subst (λ k. Refusal text k r.place) (sym a) (subst (Refusal text n) (sym b) (refused_refusal text n p h))
       refused_as exhausted h z = absurd (read_answers text h)
+
+-- the answer with a number for the reason of a refusal
+module _ (text : List ℕ) {r : Result CompiledMacro Refused} (e : r ≡ held_answer (read_macro text)) where
+  pub numbered_macro : {p : CompiledMacro} → r ≡ Ok p → record { refusal = 0; place = 0; program = p } ≡ held_reading (read_macro text)
+  unfolding held_reading
+  numbered_macro {p} h = go (read_macro text) e
+    where
+      go : (g : Got Macro) → r ≡ held_answer g → record { refusal = 0; place = 0; program = p } ≡ held_reading g
+      go (got m f) e = let z : p ≡ held_macro m = cc in λ i. record { refusal = 0; place = 0; program = z i }
+      go (Got.refused n q) e = absurd (cc)
+      go exhausted e = absurd (cc)
+
+  pub numbered_refusal : {d : Refused} → r ≡ Err d → (n : ℕ) → n ≡ number_of d.reason → (p : CompiledMacro) → p ≡ no_macro
+      → record { refusal = n; place = d.place; program = p } ≡ held_reading (read_macro text)
+  unfolding held_reading
+  numbered_refusal {d} h n i p j = go (read_macro text) refl e
+    where
+      go : (g : Got Macro) → read_macro text ≡ g → r ≡ held_answer g → record { refusal = n; place = d.place; program = p } ≡ held_reading g
+      go (got m f) w e = absurd (cc)
+      go (Got.refused k q) w e =
+          let z : d ≡ refused_as k q = cc in
+          let (a, b) = refusal_number k q (refused_refusal text k q w) in
+          let most : k ≤ 16 = refusal_at_most k q (refused_refusal text k q w) in
+          let number : n ≡ k = i ∙ ap (λ d. number_of d.reason) z ∙ number_of-reason_of k (omega arith) most in
+          λ t. record { refusal = number t; place = (ap (λ d. d.place) z) t; program = j t }
+      go exhausted w e = absurd (read_answers text w)
 
 -- There is one answer at most.
 pub reads_once : (text : List ℕ) (r q : MacroRead) → Reads text r → Reads text q → r ≡ q

@@ -1,0 +1,18 @@
+use Rattle.syntax.proofs.Theory.Top as law
+use Rattle.syntax.proofs.read_tests.Goals as goal
+
+pub returns-in_err-all : goal.returns-in_err-all
+returns-in_err-all c =
+    let a = c.args in
+    law.tests_refused a.text.now a.rs a.fs c.requires.0 c.requires.1 c.tests_line.ensures c.in_err-all.was c.from_residual.ensures
+
+pub read_body-requires : goal.read_body-requires
+read_body-requires c =
+    let a = c.args in
+    let (F, l, room) = law.tests_kept a.text.now a.rs a.fs c.requires.0 c.requires.1 c.tests_line.ensures c.in_ok-all.was in
+    (c.requires.0, F, l, room)
+
+pub returns : goal.returns
+returns c =
+    let a = c.args in
+    law.tests_read a.text.now a.rs a.fs c.requires.0 c.requires.1 c.tests_line.ensures c.in_ok-all.was c.read_body.ensures
