@@ -12,7 +12,6 @@ use Rattle.letters.specs.declared.Header.{Header}
 use Rattle.std.specs.Prelude.{Result, Ok, Err}
 use Rattle.letters.specs.declared.reasons.Refused.{Refused}
 use Rattle.letters.specs.Reasons.{number_of}
-use Rattle.traces.specs.declared.Written.TheVariants as written
 use Rattle.letters.specs.Answers.{value, refusal}
 use Rattle.letters.specs.Reasons.{as_answer}
 use Rattle.letters.specs.Editions.{first_edition}
@@ -24,7 +23,6 @@ use Rattle.traces.specs.Unpacking.{Unpacked}
 use Rattle.semantics.specs.Terms.{Trace, State, state}
 use Rattle.semantics.specs.Facts.{Valid}
 use Rattle.semantics.specs.FirstLetters.{coherent_part}
-use Rattle.window.specs.Layout.{registers}
 use Rattle.window.specs.Step.{IsWindow}
 use Rattle.window.specs.declared.Window.{Window}
 use Rattle.semantics.proofs.Theory.Facts.{state_valid}

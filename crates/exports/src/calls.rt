@@ -9,9 +9,9 @@ ghost use Rattle.exports.specs.MonitorCalls.{AsksUnequal, AsksClasses};
 ghost use Rattle.exports.specs.MonitorCalls.{StartsStream, PushesStream, FinishesStream};
 
 use super::{RUN_NUMBERS, run_numbers, store};
+use letters::reasons::Reason;
 use records::flagged;
 use states::{MONITOR_SIZE, STREAM_SIZE, monitor_in, put_monitor, put_stream, stream_in};
-use letters::reasons::Reason;
 use streaming::{Monitor, Stream};
 use unequal_flags::unequal_word;
 
@@ -29,6 +29,7 @@ const STEP_NUMBERS: usize = 4;
 const ASKED_NUMBERS: usize = 2;
 
 // Whether a state is long enough and of this kind.
+#[tactic(auto, unfolding(crate::specs::MonitorCalls::holds_state))]
 fn holds(kind: u8, size: usize, state: &[u8]) -> bool
     requires { 1 ≤ size }
     ensures { result ≡ holds_state kind size state.now }
@@ -64,7 +65,7 @@ fn keep(outcome: Result<(), Reason>, monitor: Monitor, state: &mut [u8])
     requires { monitor_size ≤ length state.old }
     ensures { KeepsStep (after outcome monitor) state.old state.new }
 {
-    if outcome.is_ok() {
+    if let Ok(()) = outcome {
         put_monitor(MONITOR, monitor, state);
     }
 }

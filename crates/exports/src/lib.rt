@@ -38,11 +38,7 @@ fn store(numbers: &[u64], answer: &mut [u64])
     requires { length numbers.now ≤ length answer.old }
     ensures { answer.new ≡ numbers.now ++ drop (length numbers.now) answer.old }
 {
-    let mut i: usize = 0;
-    while i < numbers.len() {
-        answer[i] = numbers[i];
-        i = i + 1;
-    }
+    answer[..numbers.len()].copy_from_slice(numbers);
 }
 
 // The numbers of what the run over a trace answers.

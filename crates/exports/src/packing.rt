@@ -62,7 +62,14 @@ fn read_numbers(read: Result<(Header, u64), Refused>) -> [u64; READ_NUMBERS]
             h.binary as u64,
             n,
         ],
-        Err(refused) => [u64::from(u8::from(refused.reason)), refused.place, 0, 0, 0, 0],
+        Err(refused) => [
+            u64::from(u8::from(refused.reason)),
+            refused.place,
+            0,
+            0,
+            0,
+            0,
+        ],
     }
 }
 
