@@ -1,4 +1,3 @@
-pub mod Moves
 pub mod TurnLaws
 pub mod Keeping
 pub mod ExploringLaws

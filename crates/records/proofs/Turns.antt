@@ -45,7 +45,8 @@ use Rattle.records.specs.Words.{words_in}
 taken : (s : List ℕ) (i j n : ℕ) → i < length s → j ≡ i + 1 → take (suc n) (drop i s) ≡ get_or s i 0 ∷ take n (drop j s)
 taken s i j n h e = rw (e, add-one, drop-cons s i 0 h)
 
-four_taken : (s : List ℕ) (at : ℕ) → at + 4 ≤ length s → take 4 (drop at s) ≡ get_or s at 0 ∷ get_or s (at + 1) 0 ∷ get_or s (at + 2) 0 ∷ get_or s (at + 3) 0 ∷ []
+four_taken : (s : List ℕ) (at : ℕ) → at + 4 ≤ length s
+    → take 4 (drop at s) ≡ get_or s at 0 ∷ get_or s (at + 1) 0 ∷ get_or s (at + 2) 0 ∷ get_or s (at + 3) 0 ∷ []
 four_taken s at h =
     taken s at (at + 1) 3 (omega arith) refl
     ∙ ap (λ l. get_or s at 0 ∷ l) (taken s (at + 1) (at + 2) 2 (omega arith) (omega arith)
@@ -134,7 +135,8 @@ gathered_at (suc n) (a ∷ b ∷ ds) zero h l = omega arith
 gathered_at (suc n) (a ∷ b ∷ ds) (suc i) h l =
     let x : 2 * suc i ≡ suc (suc (2 * i)) = omega arith in
     let y : 2 * suc i + 1 ≡ suc (suc (2 * i + 1)) = omega arith in
-    gathered_at n ds i (omega arith) (omega arith) ∙ ap₂ (λ p q. 16 * p + q) (ap (λ k. get_or (a ∷ b ∷ ds) k 0) (sym x)) (ap (λ k. get_or (a ∷ b ∷ ds) k 0) (sym y))
+    gathered_at n ds i (omega arith) (omega arith)
+    ∙ ap₂ (λ p q. 16 * p + q) (ap (λ k. get_or (a ∷ b ∷ ds) k 0) (sym x)) (ap (λ k. get_or (a ∷ b ∷ ds) k 0) (sym y))
 
 gathered_long : (n : ℕ) (ds : List ℕ) → length (gathered 2 4 n ds) ≡ n
 gathered_long n ds = gathered_length 2 4 n ds
@@ -450,7 +452,8 @@ module _ (v : ℕ) (number class unequal marks codes l₀ l₁ l₂ l₃ l₄ : 
       (x ∙ ap (λ (u : List ℕ). t ++ class ++ unequal ++ marks ++ (v ∷ []) ++ u) (sym (append-nil (replicate 128 0)))) s
       ∙ simp (append-nil, append_assoc)
 
-  content_made : (point : ℕ) (w : Window) → number ≡ units 2 (point ∷ []) → class ≡ units 1 w.class → unequal ≡ units 1 w.unequal → marks ≡ map flag w.mark → v ≡ flag w.infeasible → codes ≡ code_bytes w.result w.ever
+  content_made : (point : ℕ) (w : Window) → number ≡ units 2 (point ∷ []) → class ≡ units 1 w.class → unequal ≡ units 1 w.unequal
+      → marks ≡ map flag w.mark → v ≡ flag w.infeasible → codes ≡ code_bytes w.result w.ever
       → l₀ ≡ laid_at 2 number (replicate 157 0) → l₁ ≡ laid_at 4 class l₀ → l₂ ≡ laid_at 12 unequal l₁ → l₃ ≡ laid_at 20 marks l₂
       → l₄ ≡ laid_at 29 codes (set l₃ 28 v) → drop 2 l₄ ≡ formats.content_of first_format point w
   unfolding formats.content_of
@@ -459,7 +462,8 @@ module _ (v : ℕ) (number class unequal marks codes l₀ l₁ l₂ l₃ l₄ : 
       let two : units 1 (flag w.infeasible ∷ []) ≡ flag w.infeasible ∷ [] = units_one (map flag (w.infeasible ∷ [])) (all_map (w.infeasible ∷ [])) in
       ap (drop 2) (parts_made o p q r s) ∙ rw (en, ec, eu, em, ev, eo, one, two)
 
-  pub encoded_made : (point : ℕ) (w : Window) (f l₅ : List ℕ) (m : ℕ) → number ≡ units 2 (point ∷ []) → class ≡ units 1 w.class → unequal ≡ units 1 w.unequal → marks ≡ map flag w.mark → v ≡ flag w.infeasible → codes ≡ code_bytes w.result w.ever
+  pub encoded_made : (point : ℕ) (w : Window) (f l₅ : List ℕ) (m : ℕ) → number ≡ units 2 (point ∷ []) → class ≡ units 1 w.class → unequal ≡ units 1 w.unequal
+      → marks ≡ map flag w.mark → v ≡ flag w.infeasible → codes ≡ code_bytes w.result w.ever
       → l₀ ≡ laid_at 2 number (replicate 157 0) → l₁ ≡ laid_at 4 class l₀ → l₂ ≡ laid_at 12 unequal l₁ → l₃ ≡ laid_at 20 marks l₂
       → l₄ ≡ laid_at 29 codes (set l₃ 28 v) → length l₄ ≡ 157 → m ≡ fingerprint_of (take 155 (drop 2 l₄)) → f ≡ units 2 (m ∷ [])
       → l₅ ≡ laid_at 0 f l₄ → l₅ ≡ encoded point w

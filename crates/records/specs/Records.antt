@@ -15,7 +15,16 @@ record_bytes = first_edition.pair_bytes
 
 -- Codes of four bits, two to a byte.
 abbrev pub first_format : Format
-first_format = record { registers = registers; functions = functions; mask_bytes = 1; code_bits = 4; group = 2; group_bytes = 1; groups = 128; size = record_bytes }
+first_format = record {
+  registers = registers;
+  functions = functions;
+  mask_bytes = 1;
+  code_bits = 4;
+  group = 2;
+  group_bytes = 1;
+  groups = 128;
+  size = record_bytes;
+}
 
 -- How many codes there can be.
 abbrev pub code_range : ℕ

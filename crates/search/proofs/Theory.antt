@@ -3,7 +3,6 @@ pub mod Searched
 pub mod TracingLaws
 pub mod TracedLaws
 pub mod Delivering
-pub mod Modelling
 pub mod Answering
 pub mod MacroSearch
 pub mod Telling

@@ -43,7 +43,8 @@ module _ (count : ℕ) (t head link : List ℕ) (x : IndexedPairs t head link co
     new : Keeps count t (Ok (count + 1)) (put_at t count (record_of pair i b)) (set head (chain_of pair) count) (set link count (get_or head (chain_of pair) 0))
     new = record {
       windows = λ j l. window_other t count (record_of pair i b) fits long j (λ z. omega arith);
-      indexed = λ m e. subst (IndexedPairs (put_at t count (record_of pair i b)) (set head (chain_of pair) count) (set link count (get_or head (chain_of pair) 0)))
+      indexed = λ m e. subst
+          (IndexedPairs (put_at t count (record_of pair i b)) (set head (chain_of pair) count) (set link count (get_or head (chain_of pair) 0)))
           (let z : count + 1 ≡ m = cc in z)
           (index_more t head link count x within pair (put_at t count (record_of pair i b))
           (λ j l. pair_other t count (record_of pair i b) fits long j (λ z. omega arith))

@@ -77,7 +77,8 @@ module _ (t head link : List ℕ) (count : ℕ) (x : IndexedPairs t head link co
         (λ e. let z : get_or head' q 0 ≡ count = ap (λ q. get_or head' q 0) (eqb-true q b e) ∙ headed in omega arith)
         λ e. let z = get_or-set_other head b q count 0 (eqb-false q b e) in let h = x.heads q in omega arith;
     links = λ i p. by_test (eqb i count)
-        (λ e. let s = eqb-true i count e in let z : get_or link' i 0 ≡ get_or head b 0 = ap (λ i. get_or link' i 0) s ∙ linked in let h = x.heads b in omega arith)
+        (λ e. let s = eqb-true i count e in
+        let z : get_or link' i 0 ≡ get_or head b 0 = ap (λ i. get_or link' i 0) s ∙ linked in let h = x.heads b in omega arith)
         λ e. let z = get_or-set_other link count i (get_or head b 0) 0 (eqb-false i count e) in let h = x.links i p in omega arith;
     chained = λ k p l. by_test (eqb k count)
         (λ e. let s = eqb-true k count e in

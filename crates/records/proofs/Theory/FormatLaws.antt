@@ -23,7 +23,8 @@ use Rattle.window.specs.Counting.{counted_classes}
 use Rattle.window.specs.declared.Window.{Window}
 use Rattle.records.specs.Codes.{code_of, code_at, class_of_code, computed_of, assembled, gathered, scattered}
 use Rattle.records.specs.Formats.{Format, number_bytes, pair_place, content_place, results_of_format, masks_bytes, encoded_bytes_of_format}
-use Rattle.records.specs.Formats.{WidthsFit, flag, is_set, codes_of, code_bytes_in_format, content_of, encoded_in_format, record_in_format, number_in, after_point}
+use Rattle.records.specs.Formats.{WidthsFit, flag, is_set, codes_of, code_bytes_in_format, content_of, encoded_in_format, record_in_format}
+use Rattle.records.specs.Formats.{number_in, after_point}
 use Rattle.records.specs.Formats.{after_class, after_unequal, after_marks, after_infeasible, parent_in, branch_in, point_in, codes_in, results_in_format}
 use Rattle.records.specs.Formats.{ever_mask, ever_in_format, window_from, window_in_format}
 use Rattle.traces.proofs.Theory.TraceLaws.{units_length}

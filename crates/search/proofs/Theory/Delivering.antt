@@ -74,7 +74,8 @@ module _ (h : Header) (ls : List Letter) (output : List ℕ) (a : VerdictAnswer)
     unfolding reading_where
     read_within = same (le-ltb most_letters (letter_count first_edition s) (omega (arith, long))) ∙ reading_packing first_edition first_roomy h ls v fit
       where
-        same : ltb most_letters (letter_count first_edition s) ≡ false → reading_where (ltb most_letters) first_edition s ≡ reading_where (λ _. false) first_edition s
+        same : ltb most_letters (letter_count first_edition s) ≡ false
+            → reading_where (ltb most_letters) first_edition s ≡ reading_where (λ _. false) first_edition s
         same e = λ i. on_answer (beginning first_edition s)
             (λ g. pick (e i) (λ _. TraceReading.refused trace_too_long 0) λ _. letters_of first_edition g s) TraceReading.refused
 

@@ -173,12 +173,6 @@ module _ (program : struct.CompiledMacro) (t output : List ℕ) (n : ℕ) (r : R
   told : (z : Result ℕ Stop) → r ≡ z → (v : answer.Verdict) (output' : List ℕ) → Tell z v output' → Tells program t output v output'
   told z y v output' = subst (λ z. Tell z v output') (sym y ∙ ends)
 
-  pub told_full : r ≡ Err Full → Tells program t output (Refused table_too_small 0) output
-  told_full y = told (Err Full) y (Refused table_too_small 0) output (refl, refl)
-
-  pub told_pass : (k : ℕ) → r ≡ Ok k → Tells program t output (Pass k) output
-  told_pass k y = told (Ok k) y (Pass k) output (refl, refl)
-
   module _ (x : HoldsMacro program) (k d : ℕ) where
     pub packable : (kind : Kind) → r ≡ found_event kind k d → (d < most_moves) × (record_bytes * (d / 2) + record_bytes ≤ length u) × Older u (d / 2 + 1)
     packable kind y = subst (λ u. (d < most_moves) × (record_bytes * (d / 2) + record_bytes ≤ length u) × Older u (d / 2 + 1)) (sym leaves)

@@ -91,7 +91,8 @@ trail_end sp t rest zero e = refl
 trail_end sp t rest (suc j) e = absurd (omega arith)
 
 -- the letter of a branch of the point of pair i
-pub letter_is : (sp : List PointEntry) (t : List ℕ) (i b k : ℕ) (a : Letter) → k ≡ point_at t i → a ≡ letter_of (move_of (get_or sp (k % most_points) unused_point) b)
+pub letter_is : (sp : List PointEntry) (t : List ℕ) (i b k : ℕ) (a : Letter) → k ≡ point_at t i
+    → a ≡ letter_of (move_of (get_or sp (k % most_points) unused_point) b)
     → a ≡ letter_of_branch sp t i b
 unfolding letter_of_branch
 letter_is sp t i b k a e f = f ∙ ap (λ n. letter_of (move_of (get_or sp (n % most_points) unused_point) b)) e

@@ -46,7 +46,8 @@ returns-in-Err-Breaking c =
     let k = c.pack in
     let z = c.deliver_incoherent in
     told_incoherent a.program a.table.now a.output.now n.result s.result s.new.table n.ensures s.ensures.value s.ensures.table c.requires
-    c.in-Err-Breaking.count c.in-Err-Breaking.d k.result k.ensures.trace (search rules) z.result z.new.output (c.in-Err-Breaking.is ∙ ap Err c.in-Err-Breaking.field-0-is) z.ensures
+    c.in-Err-Breaking.count c.in-Err-Breaking.d k.result k.ensures.trace (search rules) z.result z.new.output
+    (c.in-Err-Breaking.is ∙ ap Err c.in-Err-Breaking.field-0-is) z.ensures
 
 pub returns-in-Err-Failing : goal.returns-in-Err-Failing
 returns-in-Err-Failing c =
@@ -56,4 +57,5 @@ returns-in-Err-Failing c =
     let k = c.pack-in-Err-Failing in
     let z = c.deliver_failing in
     told_failing a.program a.table.now a.output.now n.result s.result s.new.table n.ensures s.ensures.value s.ensures.table c.requires
-    c.in-Err-Failing.count c.in-Err-Failing.d k.result k.ensures.trace (search rules) z.result z.new.output (c.in-Err-Failing.is ∙ ap Err c.in-Err-Failing.field-0-is) z.ensures
+    c.in-Err-Failing.count c.in-Err-Failing.d k.result k.ensures.trace (search rules) z.result z.new.output
+    (c.in-Err-Failing.is ∙ ap Err c.in-Err-Failing.field-0-is) z.ensures

@@ -1,16 +1,7 @@
 use Rattle.std.proofs.Common.{rules, ◌%◌, ◌∙◌}
-use Rattle.exploration.proofs.Theory.Moves.{within_goes}
 use Rattle.exploration.proofs.Theory.TurnLaws.{turn_nothing, turn_goes, turn_breaks, turn_fails, turn_breaks_failing}
 use Rattle.exploration.proofs.Theory.Keeping.{keeps_failed, keeps_broken}
 use Rattle.exploration.proofs.Turn.perform.Goals as goal
-
-pub judge-requires : goal.judge-requires
-judge-requires c =
-    within_goes c.choose.result c.args.point (c.args.self.number % 2) c.in-Goes.letter c.in-Goes.k c.choose.ensures c.in-Goes.is c.requires.within
-
-pub perform-requires : goal.perform-requires
-perform-requires c =
-    within_goes c.choose.result c.args.point (c.args.self.number % 2) c.in-Goes.letter c.in-Goes.k c.choose.ensures c.in-Goes.is c.requires.within
 
 pub returns-in-Nothing-clause-value : goal.returns-in-Nothing-clause-value
 returns-in-Nothing-clause-value c =
@@ -53,7 +44,8 @@ returns-else-not-judge-clause-table c =
 pub returns-then-not-judge-2-clause-value : goal.returns-then-not-judge-2-clause-value
 returns-then-not-judge-2-clause-value c =
     let a = c.args in
-    c.breaks-then-not-judge-2.ensures ∙ (turn_breaks_failing a.point a.self.end a.self.room a.self.count a.self.number a.table.now c.choose.result c.choose.ensures c.in-Fails.letter a.w
+    c.breaks-then-not-judge-2.ensures
+    ∙ (turn_breaks_failing a.point a.self.end a.self.room a.self.count a.self.number a.table.now c.choose.result c.choose.ensures c.in-Fails.letter a.w
     c.requires.window c.judge-in-Fails.result c.judge-in-Fails.ensures c.in-Fails.is (search rules)).0
 
 pub returns-then-not-judge-2-clause-table : goal.returns-then-not-judge-2-clause-table
@@ -84,4 +76,5 @@ pub returns-then-not-judge-clause-keeps : goal.returns-then-not-judge-clause-kee
 returns-then-not-judge-clause-keeps c = keeps_broken _ _ _ _ c.requires.indexed c.args.self.number c.breaks.result c.breaks.ensures
 
 pub returns-then-not-judge-2-clause-keeps : goal.returns-then-not-judge-2-clause-keeps
-returns-then-not-judge-2-clause-keeps c = keeps_broken _ _ _ _ c.requires.indexed c.args.self.number c.breaks-then-not-judge-2.result c.breaks-then-not-judge-2.ensures
+returns-then-not-judge-2-clause-keeps c =
+    keeps_broken _ _ _ _ c.requires.indexed c.args.self.number c.breaks-then-not-judge-2.result c.breaks-then-not-judge-2.ensures
