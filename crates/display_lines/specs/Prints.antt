@@ -1,10 +1,10 @@
 -- The lines of the program `display` in a lent buffer (SPEC 12.7).
-use Rattle.std.specs.Prelude.{◌≡◌, List, ◌++◌, ℕ, ◌*◌, ◌/◌, ◌≤◌, ◌<◌, leb, length, drop}
+use Rattle.std.specs.Prelude.{◌≡◌, List, ◌++◌, ℕ, ◌*◌, ◌/◌, ◌≤◌, ◌<◌, leb, length, drop, Result, Ok, Err}
 use Rattle.base.specs.Choice.{pick}
 use Rattle.letters.specs.Editions.{first_edition}
 use Rattle.files.specs.Lines.{Known, bytes, unread}
-use Rattle.display_lines.specs.declared.Displayed.{Displayed}
-use Rattle.display_lines.specs.declared.Displayed.TheVariants.{Written, TooLong, Unread}
+use Rattle.display_lines.specs.declared.NotJudged.{NotJudged}
+use Rattle.display_lines.specs.declared.NotJudged.TheVariants.{TooLong, Unread}
 use Rattle.display_lines.specs.Says.{SaysDisplay}
 
 -- A longer trace is not judged (SPEC 12.7).
@@ -33,14 +33,14 @@ pub record PrintsDisplayLines (s entry : List ℕ) (size : ℕ) (exit : List ℕ
   pub stands : exit ≡ pick (leb most_display_line_bytes (length entry)) (λ _. lines ++ drop (length lines) entry) λ _. entry
 
 -- A trace that is not too long is judged as a whole; of a longer one nothing is judged, and the buffer stays.
-abbrev pub DisplaysTrace : List ℕ → List ℕ → Displayed → List ℕ → Type 0
-DisplaysTrace s entry (Written size) exit = (length s ≤ most_trace_bytes) × PrintsDisplayLines s entry size exit
-DisplaysTrace s entry TooLong exit = (most_trace_bytes < length s) × (exit ≡ entry)
-DisplaysTrace s entry Unread exit = ⊥
+abbrev pub DisplaysTrace : List ℕ → List ℕ → Result ℕ NotJudged → List ℕ → Type 0
+DisplaysTrace s entry (Ok size) exit = (length s ≤ most_trace_bytes) × PrintsDisplayLines s entry size exit
+DisplaysTrace s entry (Err TooLong) exit = (most_trace_bytes < length s) × (exit ≡ entry)
+DisplaysTrace s entry (Err Unread) exit = ⊥
 
 -- What is made of an input; where a read failed nothing is judged, and the buffer stays (SPEC 12.5).
-abbrev pub DisplaysKnown : Known → List ℕ → Displayed → List ℕ → Type 0
+abbrev pub DisplaysKnown : Known → List ℕ → Result ℕ NotJudged → List ℕ → Type 0
 DisplaysKnown (bytes s) entry r exit = DisplaysTrace s entry r exit
-DisplaysKnown unread entry (Written size) exit = ⊥
-DisplaysKnown unread entry TooLong exit = ⊥
-DisplaysKnown unread entry Unread exit = exit ≡ entry
+DisplaysKnown unread entry (Ok size) exit = ⊥
+DisplaysKnown unread entry (Err TooLong) exit = ⊥
+DisplaysKnown unread entry (Err Unread) exit = exit ≡ entry

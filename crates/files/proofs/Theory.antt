@@ -1,3 +1,4 @@
+pub mod Digits
 pub mod Input
 pub mod InputLaws
 pub mod LinesLaws

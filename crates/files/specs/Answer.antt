@@ -1,10 +1,11 @@
--- What a reader answered, as the number that POSIX's read answers.
-use Rattle.std.specs.Prelude.{ℕ, ℤ, pos, negsuc, Option, Some, Result, Ok, Err}
+-- What a reader answered (SPEC 12.5).
+use Rattle.std.specs.Prelude.{ℕ, Option, Some, Result, Ok, Err}
+use Rattle.files.specs.declared.Unread.{Unread}
 
--- How many bytes it gave, or -1 where it failed.
-abbrev pub answered : {E : Type 0} → Result ℕ E → ℤ
-answered (Ok n) = pos n
-answered (Err e) = negsuc 0
+-- How many bytes it gave, or that it failed.
+abbrev pub answered : {E : Type 0} → Result ℕ E → Result ℕ Unread
+answered (Ok n) = Ok n
+answered (Err e) = Err (record {})
 
 -- The error of the last read that failed, after this answer.
 abbrev pub kept : {E : Type 0} → Result ℕ E → Option E → Option E

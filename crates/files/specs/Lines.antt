@@ -1,9 +1,8 @@
 -- What a program makes of an input.
-use Rattle.std.specs.Prelude.{◌≡◌, List, ℕ, take}
+use Rattle.std.specs.Prelude.{◌≡◌, List, ℕ, take, Result, Ok, Err}
 use Rattle.files.specs.declared.Input.{Input}
 use Rattle.files.specs.declared.Input.TheVariants.{Ended, Full, Failed}
-use Rattle.files.specs.declared.Lines as files
-use Rattle.files.specs.declared.Lines.TheVariants.{Written, Unread}
+use Rattle.files.specs.declared.Unread.{Unread}
 
 -- What there is to judge: these bytes, or nothing, where a read failed.
 pub data Known : Type 0 where
@@ -17,8 +16,8 @@ known Full buffer = bytes buffer
 known (Failed n) buffer = unread
 
 -- The lines of the bytes are in a lent buffer, by `Prints`; or there is nothing to judge: no line is written, and the buffer stays as it was lent (SPEC 12.5).
-abbrev pub Answers : (List ℕ → List ℕ → ℕ → List ℕ → Type 0) → Known → List ℕ → files.Lines → List ℕ → Type 0
-Answers Prints (bytes s) entry (Written size) exit = Prints s entry size exit
-Answers Prints (bytes s) entry Unread exit = ⊥
-Answers Prints unread entry (Written size) exit = ⊥
-Answers Prints unread entry Unread exit = exit ≡ entry
+abbrev pub Answers : (List ℕ → List ℕ → ℕ → List ℕ → Type 0) → Known → List ℕ → Result ℕ Unread → List ℕ → Type 0
+Answers Prints (bytes s) entry (Ok size) exit = Prints s entry size exit
+Answers Prints (bytes s) entry (Err e) exit = ⊥
+Answers Prints unread entry (Ok size) exit = ⊥
+Answers Prints unread entry (Err e) exit = exit ≡ entry

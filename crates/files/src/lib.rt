@@ -2,18 +2,20 @@
 // read to its end nothing can be judged.
 #![tactic(auto)]
 
-ghost use Rattle.std.specs.Prelude.{◌≡◌, ◌+◌, ◌<◌, ◌≤◌, ◌^◌, min, length, IfOk};
-ghost use Rattle.std.proofs.Math.Seq.{paste};
+ghost use Rattle.std.specs.Prelude.{◌≡◌, ◌<◌, length, IfOk, OnErr, IfSome};
 ghost use Rattle.io.specs.Counts.{IsPrefixLen};
 ghost use Rattle.files.specs.Answer.{answered, kept};
-ghost use Rattle.files.specs.Input.{meaning, given, Gave, following, Stored, Received};
+ghost use Rattle.files.specs.Input.{meaning, Gave, following, Stored, Received};
+ghost use Rattle.files.specs.Lines.{known, bytes, unread};
 
 use std::env::{Env, FillError};
+use std::fmt::Display;
 use std::fs::File;
 use std::io::{Error, Read};
+use std::ops::ControlFlow;
 
 /// How reading into a buffer ended. What was read stands in the buffer's front, and the bytes behind it stay as they were lent.
-#[derive(Clone, Copy)]
+#[derive(Clone, Copy, PartialEq, Eq)]
 pub enum Input {
     /// The input ended, after so many bytes; they are fewer than the buffer's.
     Ended(usize),
@@ -23,72 +25,9 @@ pub enum Input {
     Failed(usize),
 }
 
-/// The lines that were made of an input.
-#[derive(Clone, Copy)]
-pub enum Lines {
-    /// So many bytes of them were written.
-    Written(usize),
-    /// The input could not be read to its end: nothing is judged.
-    Unread,
-}
-
-// What one read gave.
-#[derive(Clone, Copy)]
-enum OneRead {
-    Bytes(usize),
-    End,
-    Failed,
-}
-
-// What follows one read: it gave so many bytes, and reading goes on; or reading is over.
-#[derive(Clone, Copy)]
-enum AfterRead {
-    More(usize),
-    Over(Input),
-}
-
-// What the answer of a read of at most `most` bytes means.
-fn outcome(got: isize, most: usize) -> OneRead
-    ensures { result ≡ meaning got most }
-{
-    if got < 0 {
-        return OneRead::Failed;
-    }
-    if 0 < got {
-        return OneRead::Bytes(least(got as usize, most));
-    }
-    OneRead::End
-}
-
-/// The smaller of two numbers.
-pub fn least(a: usize, b: usize) -> usize
-    ensures { result ≡ min a b }
-{
-    if a < b { a } else { b }
-}
-
-// Copies the first n bytes of a piece into the buffer from `at` on.
-fn copy(piece: &[u8], buffer: &mut [u8], at: usize, n: usize)
-    requires { (n ≤ length piece.now) × (at + n ≤ length buffer.old) }
-    ensures { buffer.new ≡ paste buffer.old at piece.now n }
-{
-    let mut i: usize = 0;
-    while i < n {
-        buffer[at + i] = piece[i];
-        i = i + 1;
-    }
-}
-
-// How many bytes one read gave.
-fn size(once: OneRead) -> usize
-    ensures { result ≡ given once }
-{
-    match once {
-        OneRead::Bytes(n) => n,
-        OneRead::End => 0,
-        OneRead::Failed => 0,
-    }
-}
+/// The error of an input that could not be read to its end: nothing of it is judged. Why it could not, its source tells.
+#[derive(Clone, Copy, PartialEq, Eq)]
+pub struct Unread;
 
 /// Where an input comes from: a reader, and the error of its last read that failed.
 #[derive(Drop)]
@@ -97,28 +36,37 @@ pub struct Source<R> {
     error: Option<Error>,
 }
 
-// The answer of a read as a number: how many bytes it gave, or -1 where it failed; then the error is kept.
-fn number(answer: Result<usize, Error>, error: &mut Option<Error>) -> isize
-    requires { IfOk answer (λ n. n < 2 ^ 63) }
+// The answer of a read: how many bytes it gave. Of one that failed the error is kept.
+fn answer_of(answer: Result<usize, Error>, error: &mut Option<Error>) -> Result<usize, Unread>
     ensures value { result ≡ answered answer }
     ensures error_after { error.new ≡ kept answer error.old }
 {
     match answer {
-        Ok(n) => n as isize,
+        Ok(n) => Ok(n),
         Err(reason) => {
             *error = Some(reason);
-            -1
+            Err(Unread)
         }
     }
 }
 
-// Reads once, at most `most` bytes, into the front of a piece.
-fn read_piece<R: Read>(source: &mut Source<R>, piece: &mut [u8], most: usize) -> OneRead
-    requires { (0 < most) × (most ≤ length piece.old) }
-    ensures { Gave most result }
+// What the answer of a read of at most `most` bytes means: that it gave so many, or none, at the end of the input.
+fn outcome(got: Result<usize, Unread>, most: usize) -> Result<Option<usize>, Unread>
+    ensures { result ≡ meaning got most }
 {
-    let got = number(source.reader.read(&mut piece[..most]), &mut source.error);
-    outcome(got, most)
+    match got? {
+        0 => Ok(None),
+        n => Ok(Some(n.min(most))),
+    }
+}
+
+// Reads once, into a piece that has room for one byte at least.
+fn read_piece<R: Read>(source: &mut Source<R>, piece: &mut [u8]) -> Result<Option<usize>, Unread>
+    requires { 0 < length piece.old }
+    ensures { Gave (length piece.old) result }
+{
+    let got = answer_of(source.reader.read(piece), &mut source.error);
+    outcome(got, piece.len())
 }
 
 // Reads once, into the buffer from `at` on. The bytes go through a piece, because nothing is known of what the system's read leaves
@@ -128,24 +76,27 @@ fn read_once<R: Read>(
     buffer: &mut [u8],
     at: usize,
     piece: &mut [u8],
-) -> OneRead
+) -> Result<Option<usize>, Unread>
     requires { (at < length buffer.old) × (0 < length piece.old) }
     ensures { Stored buffer.old at piece.new result buffer.new }
 {
-    let most = least(buffer.len() - at, piece.len());
-    let once = read_piece(source, piece, most);
-    copy(piece, buffer, at, size(once));
+    let most = piece.len().min(buffer.len() - at);
+    let once = read_piece(source, &mut piece[..most]);
+    if let Ok(Some(n)) = once {
+        buffer[at..at + n].copy_from_slice(&piece[..n]);
+    }
     once
 }
 
-// What follows a read before which `done` bytes were read: the end of the input and a failure are told apart here.
-fn after(once: OneRead, done: usize) -> AfterRead
+// What follows a read before which `done` bytes were read: it gave so many more, and reading goes on; or reading is over. The end of
+// the input and a failure are told apart here.
+fn after(once: Result<Option<usize>, Unread>, done: usize) -> ControlFlow<Input, usize>
     ensures { result ≡ following once done }
 {
     match once {
-        OneRead::Bytes(n) => AfterRead::More(n),
-        OneRead::End => AfterRead::Over(Input::Ended(done)),
-        OneRead::Failed => AfterRead::Over(Input::Failed(done)),
+        Ok(Some(n)) => ControlFlow::Continue(n),
+        Ok(None) => ControlFlow::Break(Input::Ended(done)),
+        Err(Unread) => ControlFlow::Break(Input::Failed(done)),
     }
 }
 
@@ -154,18 +105,31 @@ fn after(once: OneRead, done: usize) -> AfterRead
 pub fn read<R: Read>(source: &mut Source<R>, buffer: &mut [u8]) -> Input
     ensures { Received buffer.old result buffer.new }
 {
-    let mut space = io::large_buffer();
-    let piece: &mut [u8] = &mut space;
+    let mut piece = io::large_buffer();
     let mut done: usize = 0;
     while done < buffer.len() {
-        let once = read_once(source, buffer, done, piece);
-        let next = after(once, done);
-        match next {
-            AfterRead::More(n) => done = done + n,
-            AfterRead::Over(input) => return input,
+        let once = read_once(source, buffer, done, &mut piece);
+        match after(once, done) {
+            ControlFlow::Continue(n) => done += n,
+            ControlFlow::Break(input) => return input,
         }
     }
     Input::Full
+}
+
+impl Input {
+    /// What there is to judge of an input that was read into a buffer: as many bytes as it had, at most the buffer's; all of them where it
+    /// filled the buffer.
+    pub fn known(self, buffer: &[u8]) -> Result<&[u8], Unread>
+        ensures read { IfOk result (λ s. known self buffer.now ≡ bytes s.now) }
+        ensures failed { OnErr result (known self buffer.now ≡ unread) }
+    {
+        match self {
+            Input::Ended(n) => Ok(&buffer[..n.min(buffer.len())]),
+            Input::Full => Ok(buffer),
+            Input::Failed(_) => Err(Unread),
+        }
+    }
 }
 
 impl<R: Read> Source<R> {
@@ -183,45 +147,45 @@ impl<R: Read> Source<R> {
     /// Says on standard error why the last read that failed did.
     pub fn tell(&self, rt: &HostRuntime, what: &[u8]) {
         match &self.error {
-            Some(error) => fail(rt, what, error),
-            None => say(rt, what, "failed"),
+            Some(error) => say(rt, what, error),
+            None => say(rt, what, &"failed"),
         }
     }
 }
 
-/// Writes a line to standard error: what it is about, a colon and the words on it.
-pub fn say(rt: &HostRuntime, what: &[u8], words: &str) {
+/// Writes a line to standard error: what it is about or what failed, a colon, and the words on it or the reason.
+pub fn say<D: Display>(rt: &HostRuntime, what: &[u8], words: &D) {
     let stderr = rt.stderr();
     let _ = stderr.write_all(what);
     let _ = stderr.println(format_args!(": {words}"));
 }
 
-/// Writes a line to standard error: what failed, a colon and the reason.
-pub fn fail(rt: &HostRuntime, what: &[u8], error: &Error) {
-    let stderr = rt.stderr();
-    let _ = stderr.write_all(what);
-    let _ = stderr.println(format_args!(": {error}"));
-}
-
 /// Writes all bytes to standard output, or says on standard error why it could not; some of them may then have been written.
 pub fn print(rt: &HostRuntime, bytes: &[u8]) {
     if let Err(error) = rt.write_all(bytes) {
-        fail(rt, b"write", &error);
+        say(rt, b"write", &error);
     }
+}
+
+/// Writes a name, what stands between and the lines to standard output, as `print` writes bytes.
+pub fn print_behind(rt: &HostRuntime, name: &[u8], between: &[u8], lines: &[u8]) {
+    print(rt, name);
+    print(rt, between);
+    print(rt, lines);
 }
 
 /// Writes a number in decimal digits to standard output, as `print` writes bytes.
 pub fn print_number(rt: &HostRuntime, n: u64) {
-    let mut digits = [0u8; 20];
-    let size = io::decimal(n, &mut digits);
-    print(rt, &digits[..size]);
+    if let Err(error) = rt.print(n) {
+        say(rt, b"write", &error);
+    }
 }
 
 /// A file that is open, and the size of its name.
 #[derive(Drop)]
 pub struct Opened {
-    /// The file, if it could be opened.
-    pub file: Option<File>,
+    /// The file.
+    pub file: File,
     /// How many bytes its name has.
     pub size: usize,
 }
@@ -229,45 +193,39 @@ pub struct Opened {
 // Opens a file for reading, or says on standard error why it could not.
 fn open(rt: &HostRuntime, name: &[u8]) -> Option<File> {
     let Ok(path) = std::str::from_utf8(name) else {
-        say(rt, name, "not UTF-8");
+        say(rt, name, &"not UTF-8");
         return None;
     };
     match File::open(rt, path) {
         Ok(file) => Some(file),
         Err(error) => {
-            fail(rt, name, &error);
+            say(rt, name, &error);
             None
         }
     }
 }
 
 /// Opens the file that argument i names for reading and puts its name into the front of a buffer, or says on standard error why it could not.
-pub fn open_argument(rt: &HostRuntime, i: usize, name: &mut [u8]) -> Opened
-    ensures { IsPrefixLen result.size name.new }
+pub fn open_argument(rt: &HostRuntime, i: usize, name: &mut [u8]) -> Option<Opened>
+    ensures { IfSome result (λ opened. IsPrefixLen opened.size name.new) }
 {
     match rt.arg(i, name) {
-        Ok(size) => Opened {
-            file: open(rt, &name[..size]),
-            size,
-        },
+        Ok(size) => {
+            let file = open(rt, &name[..size])?;
+            Some(Opened { file, size })
+        }
         Err(FillError::TooLong) => {
-            say(rt, b"argument", "File name too long");
-            Opened {
-                file: None,
-                size: 0,
-            }
+            say(rt, b"argument", &"File name too long");
+            None
         }
         Err(FillError::NotPresent) => {
-            say(rt, b"argument", "Invalid argument");
-            Opened {
-                file: None,
-                size: 0,
-            }
+            say(rt, b"argument", &"Invalid argument");
+            None
         }
     }
 }
 
-/// How many arguments there are; the first is the program's name.
+/// How many arguments there are; the first is the program's name. They are asked for one by one: std's list of them takes memory of the heap.
 pub fn argument_count(rt: &HostRuntime) -> usize {
     let mut byte = [0u8; 1];
     for i in 0..usize::MAX {
@@ -276,4 +234,16 @@ pub fn argument_count(rt: &HostRuntime) -> usize {
         }
     }
     usize::MAX
+}
+
+/// Opens the file that each argument names, one after the other, and hands it over with its name; or says on standard error why it could not.
+pub fn open_arguments<F: FnMut(File, &[u8])>(rt: &HostRuntime, mut take: F)
+    requires { F.IsAlwaysCallable take }
+{
+    for i in 1..argument_count(rt) {
+        let mut name = io::buffer();
+        if let Some(Opened { file, size }) = open_argument(rt, i, &mut name) {
+            take(file, &name[..size]);
+        }
+    }
 }

@@ -1,8 +1,8 @@
 -- What the program `layout` makes of a file (SPEC 12.5, 12.6).
-use Rattle.std.specs.Prelude.{◌≡◌, List, ℕ, ◌+◌, length}
+use Rattle.std.specs.Prelude.{◌≡◌, List, ℕ, ◌+◌, length, Result}
 use Rattle.grammar.specs.Limits.{longest_text}
 use Rattle.files.specs.declared.Input.{Input}
-use Rattle.files.specs.declared.Lines as files
+use Rattle.files.specs.declared.Unread.{Unread}
 use Rattle.files.specs.Input.{Received}
 use Rattle.files.specs.Lines.{known, Answers}
 use Rattle.layout_lines.specs.Prints.{PrintsLayoutLines}
@@ -12,7 +12,7 @@ abbrev pub most_layout_read : ℕ
 most_layout_read = longest_text + 1
 
 -- The lines are those of what was read; where reading failed nothing is answered. What the system's reads give is free.
-pub record AnswersLayoutInput (entry : List ℕ) (r : files.Lines) (exit : List ℕ) : Type 0 where
+pub record AnswersLayoutInput (entry : List ℕ) (r : Result ℕ Unread) (exit : List ℕ) : Type 0 where
   pub space : List ℕ
   pub room : most_layout_read ≡ length space
   pub input : Input

@@ -6,22 +6,16 @@ ghost use Rattle.files.specs.Lines.{known, Answers};
 ghost use Rattle.layout_lines.specs.Prints.{most_layout_line_bytes, PrintsLayoutLines};
 ghost use Rattle.layout_lines.specs.Answered.{AnswersLayoutInput};
 
-use files::{Input, Lines, Source};
+use files::{Input, Source, Unread};
 use layout_writer::{LONGEST_PRINT, LayoutWritten};
 use std::io::Read;
 use syntax::LONGEST_TEXT;
-use text::put_line;
 
 // One byte more than the longest text that is taken.
 const MOST_READ: usize = LONGEST_TEXT + 1;
 
 /// The lines are never longer.
 pub const MOST_BYTES: usize = LONGEST_PRINT;
-
-// Room for what is read of a text.
-fn text_space() -> [u8; MOST_READ] {
-    [0; MOST_READ]
-}
 
 /// Room for the lines of any text.
 pub fn line_space() -> [u8; MOST_BYTES]
@@ -38,41 +32,26 @@ pub fn write_lines(text: &[u8], lines: &mut [u8]) -> usize
     if lines.len() < MOST_BYTES {
         return 0;
     }
-    let written = layout_writer::write_layout(text, lines);
-    match written {
+    match layout_writer::write_layout(text, lines) {
         LayoutWritten::Printed(n) => n,
-        LayoutWritten::Refused(number, place) => {
-            put_line(
-                lines,
-                0,
-                b"refused 4 at 5\n",
-                [number as u64, place as u64, 0, 0],
-            )
-        }
+        LayoutWritten::Refused(number, place) => report::write_refused(number, place as u64, lines),
     }
 }
 
 /// Writes the lines of an input that was read into `text` into the front of a lent buffer: those of the bytes that it had, or of all bytes
 /// where it filled `text`. Where a read failed nothing is printed, and the buffer stays as it is.
-pub fn answer_to(text: &[u8], input: Input, lines: &mut [u8]) -> Lines
+pub fn answer_to(text: &[u8], input: Input, lines: &mut [u8]) -> Result<usize, Unread>
     ensures { Answers PrintsLayoutLines (known input text.now) lines.old result lines.new }
 {
-    match input {
-        Input::Ended(n) => {
-            let end = files::least(n, text.len());
-            Lines::Written(write_lines(&text[..end], lines))
-        }
-        Input::Full => Lines::Written(write_lines(text, lines)),
-        Input::Failed(_) => Lines::Unread,
-    }
+    Ok(write_lines(input.known(text)?, lines))
 }
 
 /// Reads a text from a reader, and writes its lines into the front of a lent buffer. Of a text that is too long one byte more than
 /// `LONGEST_TEXT` is read: it is refused for its length.
-pub fn answer<R: Read>(source: &mut Source<R>, lines: &mut [u8]) -> Lines
+pub fn answer<R: Read>(source: &mut Source<R>, lines: &mut [u8]) -> Result<usize, Unread>
     ensures { AnswersLayoutInput lines.old result lines.new }
 {
-    let mut text = text_space();
+    let mut text = [0; MOST_READ];
     let input = files::read(source, &mut text);
     answer_to(&text, input, lines)
 }

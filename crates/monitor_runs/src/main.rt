@@ -2,7 +2,7 @@
 // incoherent and the first infeasible letter, 0 for none, or `refused` with number and place.
 #![tactic(auto)]
 
-use files::{Input, Opened, Source};
+use files::{Input, Source, Unread};
 use std::fs::File;
 use streaming::RunAnswer;
 use streaming::byte_stream::judge_trace;
@@ -35,28 +35,13 @@ fn judge(rt: &HostRuntime, file: File, name: &[u8]) {
     let mut source = Source::new(file);
     let mut buffer = io::large_buffer();
     let input = files::read(&mut source, &mut buffer);
-    match input {
-        Input::Ended(n) => report(rt, name, &buffer[..n]),
-        Input::Full => files::say(rt, name, "too long"),
-        Input::Failed(_) => source.tell(rt, name),
+    match input.known(&buffer) {
+        Ok(_) if input == Input::Full => files::say(rt, name, &"too long"),
+        Ok(trace) => report(rt, name, trace),
+        Err(Unread) => source.tell(rt, name),
     }
 }
 
-fn run_one(rt: &HostRuntime, i: usize) {
-    let mut name = io::buffer();
-    let opened = files::open_argument(rt, i, &mut name);
-    let Opened { file, size } = opened;
-    if let Some(file) = file {
-        judge(rt, file, &name[..size]);
-    }
-}
-
-// The first argument is the program's name.
 fn main(rt: HostRuntime) {
-    let count = files::argument_count(&rt);
-    let mut i: usize = 1;
-    while i < count {
-        run_one(&rt, i);
-        i = i + 1;
-    }
+    files::open_arguments(&rt, |file, name| judge(&rt, file, name));
 }

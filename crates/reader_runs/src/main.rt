@@ -2,7 +2,7 @@
 #![tactic(auto)]
 
 use blocks::{POINT_SPACE, PointEntry, PointKind};
-use files::{Input, Opened, Source};
+use files::{Source, Unread};
 use letters::Letter;
 use std::fs::File;
 use syntax::{CompiledMacro, LONGEST_TEXT};
@@ -12,13 +12,6 @@ const MOST_READ: usize = LONGEST_TEXT + 1;
 
 // The points of a macro are printed if there are no more.
 const FEW_POINTS: u16 = 12;
-
-// The turns that print them.
-const TURNS: usize = FEW_POINTS as usize;
-
-fn space() -> [u8; MOST_READ] {
-    [0; MOST_READ]
-}
 
 fn number(rt: &HostRuntime, n: u64) {
     files::print(rt, b" ");
@@ -73,17 +66,10 @@ fn print_point(rt: &HostRuntime, point: PointEntry) {
 
 // The points, if they are few.
 fn print_points(rt: &HostRuntime, points: [PointEntry; POINT_SPACE], count: u16) {
-    if FEW_POINTS < count {
-        return;
-    }
-    let mut i: usize = 0;
-    while i < TURNS {
-        if count as usize <= i {
-            return;
+    if count <= FEW_POINTS {
+        for point in &points[..count as usize] {
+            print_point(rt, *point);
         }
-        let point = points[i];
-        print_point(rt, point);
-        i += 1;
     }
 }
 
@@ -113,32 +99,15 @@ fn report(rt: &HostRuntime, name: &[u8], text: &[u8]) {
     files::print(rt, b"\n");
 }
 
-fn judge(rt: &HostRuntime, file: File, name: &[u8]) {
+fn read(rt: &HostRuntime, file: File, name: &[u8]) {
     let mut source = Source::new(file);
-    let mut text = space();
-    let input = files::read(&mut source, &mut text);
-    match input {
-        Input::Ended(n) => report(rt, name, &text[..n]),
-        Input::Full => report(rt, name, &text),
-        Input::Failed(_) => source.tell(rt, name),
+    let mut text = [0; MOST_READ];
+    match files::read(&mut source, &mut text).known(&text) {
+        Ok(known) => report(rt, name, known),
+        Err(Unread) => source.tell(rt, name),
     }
 }
 
-fn run_one(rt: &HostRuntime, i: usize) {
-    let mut name = io::buffer();
-    let opened = files::open_argument(rt, i, &mut name);
-    let Opened { file, size } = opened;
-    if let Some(file) = file {
-        judge(rt, file, &name[..size]);
-    }
-}
-
-// The first argument is the program's name.
 fn main(rt: HostRuntime) {
-    let count = files::argument_count(&rt);
-    let mut i: usize = 1;
-    while i < count {
-        run_one(&rt, i);
-        i = i + 1;
-    }
+    files::open_arguments(&rt, |file, name| read(&rt, file, name));
 }

@@ -6,11 +6,14 @@ mod answer;
 mod lines;
 
 ghost use Rattle.std.specs.Prelude.{◌≡◌};
+ghost use Rattle.text.specs.Appending.{Appended};
+ghost use Rattle.report.specs.Lines.{refused_line};
 ghost use Rattle.report.specs.Shown.{report_of, WroteText};
 ghost use Rattle.report.specs.Bound.{Limited};
 
 use letters::Header;
 use letters::limits::{MOST_FUNCTIONS, MOST_REGISTERS};
+use text::Writer;
 
 /// How many numbers a word of two bytes holds. A verdict has fewer letters.
 pub const WORD_VALUES: usize = 65536;
@@ -71,4 +74,13 @@ pub fn write_report(
         return None;
     }
     Some(declared.put_whole(verdict, answer, out))
+}
+
+/// Writes the line of a refusal into the front of a lent buffer, as far as that goes, and gives the number of its bytes.
+pub fn write_refused(number: u8, place: u64, out: &mut [u8]) -> usize
+    ensures { Appended out.old 0 (refused_line number place) out.new result }
+{
+    let mut writer = Writer::new(out);
+    writer.put_line(b"refused 4 at 5\n", [number as u64, place, 0, 0]);
+    writer.at
 }

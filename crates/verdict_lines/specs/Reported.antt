@@ -9,8 +9,6 @@ use Rattle.search.specs.declared.Verdict as search
 use Rattle.search.specs.declared.Verdict.TheVariants.{Pass, Fail, Incoherent, Refused}
 use Rattle.report.specs.declared.ReportedVerdict as report
 use Rattle.report.specs.declared.ReportedVerdict.TheVariants as printed
-use Rattle.report.specs.declared.ReportWritten.{ReportWritten}
-use Rattle.report.specs.declared.ReportWritten.TheVariants.{Bytes, NoRoom}
 use Rattle.report.specs.Shown.{report_of}
 use Rattle.report.specs.Bound.{letter_number, row_number}
 use Rattle.report.specs.Shown.{word_values}
@@ -26,11 +24,6 @@ reported (Refused number place) = printed.Refused number place
 -- The report on a macro as the reader's struct holds it; the bytes of the answer are in s.
 unfoldable pub report_for : held.CompiledMacro → search.Verdict → List ℕ → List ℕ
 report_for program verdict s = report_of program.registers program.functions program.header (reported verdict) s
-
--- How many bytes were written, 0 if there was no room.
-abbrev pub bytes_written : ReportWritten → ℕ
-bytes_written (Bytes n) = n
-bytes_written NoRoom = 0
 
 -- A model has no more rows than its execution computes terms: one for each letter, and one for each register.
 abbrev pub most_rows : ℕ

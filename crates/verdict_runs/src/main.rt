@@ -1,41 +1,18 @@
 // Judges the macro in each file that an argument names: the file's name, and the lines of the verdict program.
 #![tactic(auto)]
 
-use files::{Lines, Opened, Source};
+use files::{Source, Unread};
 use std::fs::File;
 
-// Prints the name of a file and its lines.
-fn report(rt: &HostRuntime, name: &[u8], lines: &[u8]) {
-    files::print(rt, name);
-    files::print(rt, b":\n");
-    files::print(rt, lines);
-}
-
-fn judge(rt: &HostRuntime, file: File, name: &[u8]) {
+fn answer(rt: &HostRuntime, file: File, name: &[u8]) {
     let mut source = Source::new(file);
     let mut lines = verdict_lines::line_space();
-    let answer = verdict_lines::answer(&mut source, &mut lines);
-    match answer {
-        Lines::Written(n) => report(rt, name, &lines[..n]),
-        Lines::Unread => source.tell(rt, name),
+    match verdict_lines::answer(&mut source, &mut lines) {
+        Ok(n) => files::print_behind(rt, name, b":\n", &lines[..n]),
+        Err(Unread) => source.tell(rt, name),
     }
 }
 
-fn run_one(rt: &HostRuntime, i: usize) {
-    let mut name = io::buffer();
-    let opened = files::open_argument(rt, i, &mut name);
-    let Opened { file, size } = opened;
-    if let Some(file) = file {
-        judge(rt, file, &name[..size]);
-    }
-}
-
-// The first argument is the program's name.
 fn main(rt: HostRuntime) {
-    let count = files::argument_count(&rt);
-    let mut i: usize = 1;
-    while i < count {
-        run_one(&rt, i);
-        i = i + 1;
-    }
+    files::open_arguments(&rt, |file, name| answer(&rt, file, name));
 }

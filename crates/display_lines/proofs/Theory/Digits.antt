@@ -1,12 +1,14 @@
 -- The hexadecimal digits of a word, as two names.
 use mathlib.Core.Path.{◌≡◌, refl, sym, ap, ◌∙◌, subst}
 use mathlib.Core.List.{List, [], ◌∷◌, ◌++◌}
-use Prim.Native.Nat.{ℕ, zero, suc, ◌+◌, ◌*◌, ◌/◌, ◌%◌, ◌^◌, ◌≤◌, ◌<◌}
+use Prim.Native.Nat.{ℕ, zero, suc, ◌+◌, ◌*◌, ◌/◌, ◌%◌, ◌^◌, ◌≤◌, ◌<◌, ◌-◌}
 use native.Mathlib.Omega.{arith}
-use native.Mathlib.Nat.{pow-zero, pow-suc, pow-succ', pow-le-pow_right, div-div-eq-div-mul, div-one}
-use native.Mathlib.Numerals.{add-one}
+use native.Mathlib.Nat.{pow-zero, pow-suc, pow-succ', pow-le-pow_right, div-div-eq-div-mul, div-one, zero-add, suc-add}
 use lib.Dec.{ltb}
-use Rattle.io.specs.Digits.{hex_digit_ascii, last_digits}
+use lib.ListN.{length, get_or, take, drop, drop_of_length-le}
+use lib.Seq.{drop-cons, take_all}
+use Rattle.io.specs.Digits.{hex_digit_ascii, last_digits, IsDigitCount}
+use Rattle.files.proofs.Theory.Digits.{width_kept}
 use Rattle.base.proofs.Theory.Choice.{by_test}
 use Rattle.tokens.specs.Bytes.{spelling}
 use Rattle.tokens.proofs.Theory.Keys.{TokenBytes}
@@ -36,47 +38,60 @@ digits_bytes (suc k) n =
     rest_small : (m : ℕ) → m % hex_base < hex_base
     rest_small m = omega arith
 
--- The last i digits of a number as a name, and what is left of the number before them.
-pub record NameSoFar (number i name rest : ℕ) : Type 0 where
-  pub few : i ≤ name_digits
-  pub name_is : name ≡ spelling (last_digits hex_base i number)
-  pub rest_is : rest ≡ number / hex_base ^ i
-  pub within : name < 256 ^ i
+-- ── a name from the end of some bytes ──
+-- The bytes from i on, as the number of a name.
+pub record NameFrom (bytes : List ℕ) (i name : ℕ) : Type 0 where
+  pub first : name_digits ≤ i
+  pub last : i ≤ word_digits
+  pub name_is : name ≡ spelling (drop i bytes)
+  pub within : name < 256 ^ (word_digits - i)
 
-pub named_none : (number : ℕ) → NameSoFar number 0 0 number
-named_none number = record { few = omega arith; name_is = refl; rest_is = sym (div-one number); within = omega arith }
+pub named_none : (bytes : List ℕ) → word_digits ≡ length bytes → NameFrom bytes word_digits 0
+named_none bytes h = record { first = omega arith; last = omega arith; name_is = rw (drop_of_length-le bytes {i = word_digits} (omega (arith, h))) refl; within = omega arith }
 
 -- One more digit still fits.
-pub named_small : {number i name rest : ℕ} → NameSoFar number i name rest → i < name_digits → name < 72057594037927936
-named_small {number} {i} {name} s h =
-    let l : 256 ^ i ≤ 256 ^ 7 = pow-le-pow_right (let z : 0 < 256 = omega arith in z) (let z : i ≤ 7 = omega arith in z) in
-    under name (256 ^ i) s.within l
+pub named_small : {bytes : List ℕ} {i name : ℕ} → NameFrom bytes i name → name_digits < i → name < 72057594037927936
+named_small {bytes} {i} {name} s h =
+    let l : 256 ^ (word_digits - i) ≤ 256 ^ 7 = pow-le-pow_right (let z : 0 < 256 = omega arith in z) (let z : word_digits - i ≤ 7 = omega arith in z) in
+    under name (256 ^ (word_digits - i)) s.within l
   where
     under : (n p : ℕ) → n < p → p ≤ 256 ^ 7 → n < 72057594037927936
     under n p a b = omega arith
 
-pub named_more : {number i name rest : ℕ} (d : ℕ) → NameSoFar number i name rest → i < name_digits → d ≡ hex_digit_ascii (rest % hex_base) → d < 128
-    → NameSoFar number (i + 1) (d + 256 * name) (rest / hex_base)
-named_more {number} {i} {name} {rest} d s h e l = subst (λ (j : ℕ). NameSoFar number j (d + 256 * name) (rest / hex_base)) (sym (add-one i)) record {
-  few = h;
-  name_is = first ∙ sym (ap spelling (digits_first hex_base i number));
-  rest_is = ap (λ (m : ℕ). m / hex_base) s.rest_is ∙ next;
-  within = rw (pow-suc 256 i) (under name (256 ^ i) s.within);
+pub named_more : {bytes : List ℕ} {i name : ℕ} → NameFrom bytes i name → name_digits < i → word_digits ≡ length bytes → get_or bytes (i - 1) 0 < 256
+    → NameFrom bytes (i - 1) (get_or bytes (i - 1) 0 + 256 * name)
+named_more {bytes} {i} {name} s h l d = record {
+  first = omega arith;
+  last = omega (arith, s.last);
+  name_is = ap (λ (n : ℕ). get_or bytes (i - 1) 0 + 256 * n) (s.name_is ∙ ap (λ (k : ℕ). spelling (drop k bytes)) behind)
+      ∙ sym (ap spelling (drop-cons bytes (i - 1) 0 (omega (arith, s.last, l))));
+  within = rw (places, pow-suc 256 (word_digits - i)) (under name (256 ^ (word_digits - i)) s.within);
 }
   where
-    first : d + 256 * name ≡ hex_digit_ascii (number / hex_base ^ i % hex_base) + 256 * spelling (last_digits hex_base i number)
-    first = λ k. (e ∙ ap (λ (m : ℕ). hex_digit_ascii (m % hex_base)) s.rest_is) k + 256 * s.name_is k
+    behind : i ≡ suc (i - 1)
+    behind = omega arith
 
-    next : number / hex_base ^ i / hex_base ≡ number / hex_base ^ suc i
-    next = div-div-eq-div-mul number (hex_base ^ i) hex_base ∙ ap (λ (m : ℕ). number / m) (sym (pow-suc hex_base i))
+    places : word_digits - (i - 1) ≡ suc (word_digits - i)
+    places = omega (arith, s.last)
 
-    under : (n p : ℕ) → n < p → d + 256 * n < p * 256
+    under : (n p : ℕ) → n < p → get_or bytes (i - 1) 0 + 256 * n < p * 256
     under n p a = omega arith
 
-pub named_whole : {number i name rest : ℕ} → NameSoFar number i name rest → name_digits ≤ i → name ≡ spelling (last_digits hex_base name_digits number)
-named_whole {number} {i} s h =
-    let e : i ≡ name_digits = omega (arith, s.few) in
-    s.name_is ∙ ap (λ (j : ℕ). spelling (last_digits hex_base j number)) e
+last_behind : (j k n : ℕ) → drop j (last_digits hex_base (j + k) n) ≡ last_digits hex_base k n
+last_behind zero k n = rw zero-add refl
+last_behind (suc j) k n = rw (suc-add, digits_first hex_base (j + k) n) (last_behind j k n)
+
+-- The digits of a number as `io::hex` writes them: the last ones are those of the name.
+pub named_whole : {bytes : List ℕ} {i name : ℕ} (number count : ℕ) → NameFrom bytes i name → i ≤ name_digits → word_digits ≡ length bytes → number < 2 ^ 64
+    → IsDigitCount hex_base word_digits number count → take count bytes ≡ last_digits hex_base count number
+    → name ≡ spelling (last_digits hex_base name_digits number)
+named_whole {bytes} {i} {name} number count s h l n w e =
+    let whole : count ≡ word_digits = width_kept word_digits number count n w.0 w.2 in
+    let all : bytes ≡ last_digits hex_base word_digits number =
+    sym (take_all count bytes (omega (arith, whole, l))) ∙ e ∙ ap (λ (k : ℕ). last_digits hex_base k number) whole in
+    let here : i ≡ name_digits = omega (arith, s.first) in
+    s.name_is ∙ ap (λ (k : ℕ). spelling (drop k bytes)) here ∙ ap (λ (b : List ℕ). spelling (drop name_digits b)) all
+    ∙ ap spelling (last_behind name_digits name_digits number)
 
 -- ── the two halves of a word ──
 halves : (w : ℕ) → last_digits hex_base word_digits w ≡ last_digits hex_base name_digits (w / half_word) ++ last_digits hex_base name_digits w

@@ -5,75 +5,70 @@ use mathlib.Core.List.{List}
 use Prim.Native.Nat.{ℕ, ◌+◌, ◌-◌, ◌<◌, ◌≤◌, min}
 use native.Mathlib.Omega.{arith}
 use lib.Dec.{eqb, T}
-use lib.IntN.{ℤ, pos, negsuc}
+use Rattle.std.specs.Prelude.{Some, None, Result, Ok, Err}
+use Rattle.std.specs.declared.ops.ControlFlow.{ControlFlow}
+use Rattle.std.specs.declared.ops.ControlFlow.TheVariants.{Continue, Break}
+use Rattle.files.specs.declared.Unread.{Unread}
 use lib.ListN.{length, take, drop}
 use lib.Seq.{length-paste, length-take-le, drop-paste, drop-drop}
 use borrow.Author.Tests.{eqb-false}
 use Rattle.base.proofs.Theory.Choice.{by_test}
-use Rattle.files.specs.declared.OneRead.{OneRead}
-use Rattle.files.specs.declared.OneRead.TheVariants.{Bytes, End, Failed}
 use Rattle.files.specs.declared.Input.{Input}
 use Rattle.files.specs.declared.Input.TheVariants.{Ended, Full}
-use Rattle.files.specs.declared.AfterRead.{AfterRead}
-use Rattle.files.specs.declared.AfterRead.TheVariants.{More, Over}
-use Rattle.files.specs.Input.{meaning, given, Gave, Stored, read_count, following, ReadSequence, Received}
+use Rattle.files.specs.Input.{OneRead, meaning, given, Gave, Stored, read_count, following, ReadSequence, Received}
 use Rattle.files.proofs.Theory.Input.{Short}
 
-meaning_gave : (z : ℤ) (most : ℕ) → 0 < most → Gave most (meaning z most)
-unfolding meaning
-meaning_gave (negsuc k) most h = tt
-meaning_gave (pos n) most h = by_test (eqb n 0) (λ t. rw t tt) λ t. let l = eqb-false n 0 t in rw t (some n most l h, omega arith)
+meaning_gave : (z : Result ℕ Unread) (most : ℕ) → 0 < most → Gave most (meaning z most)
+meaning_gave (Err e) most h = tt
+meaning_gave (Ok n) most h = by_test (eqb n 0) (λ t. rw t tt) λ t. let l = eqb-false n 0 t in rw t (some n most l h, omega arith)
   where
     some : (n most : ℕ) → (n ≡ 0 → ⊥) → 0 < most → 0 < min n most
     some n most l h = omega arith
 
-pub gave : (z : ℤ) (most : ℕ) (r : OneRead) → r ≡ meaning z most → 0 < most → Gave most r
+pub gave : (z : Result ℕ Unread) (most : ℕ) (r : OneRead) → r ≡ meaning z most → 0 < most → Gave most r
 gave z most r e h = subst (Gave most) (sym e) (meaning_gave z most h)
 
 pub gave_most : (most : ℕ) (r : OneRead) → Gave most r → given r ≤ most
-gave_most most (Bytes n) h = h.1
-gave_most most End h = omega arith
-gave_most most Failed h = omega arith
+gave_most most (Ok (Some n)) h = h.1
+gave_most most (Ok None) h = omega arith
+gave_most most (Err x) h = omega arith
 
 pub gave_wider : (most room : ℕ) (r : OneRead) → most ≤ room → Gave most r → Gave room r
-gave_wider most room (Bytes n) l h = (h.0, omega (arith, h.1))
-gave_wider most room End l h = tt
-gave_wider most room Failed l h = tt
+gave_wider most room (Ok (Some n)) l h = (h.0, omega (arith, h.1))
+gave_wider most room (Ok None) l h = tt
+gave_wider most room (Err x) l h = tt
 
 -- ── one read after the other ──
-abbrev over_of : AfterRead → Input
-over_of (More n) = Full
-over_of (Over i) = i
+abbrev over_of : ControlFlow Input ℕ → Input
+over_of (Continue n) = Full
+over_of (Break i) = i
 
-abbrev more_of : AfterRead → ℕ
-more_of (More n) = n
-more_of (Over i) = 0
+abbrev more_of : ControlFlow Input ℕ → ℕ
+more_of (Continue n) = n
+more_of (Break i) = 0
 
-abbrev is_more : AfterRead → Bool
-is_more (More n) = true
-is_more (Over i) = false
+abbrev is_more : ControlFlow Input ℕ → Bool
+is_more (Continue n) = true
+is_more (Break i) = false
 
-more_over : {n : ℕ} {i : Input} → More n ≡ Over i → ⊥
+more_over : {n : ℕ} {i : Input} → Continue n ≡ Break i → ⊥
 more_over e = subst T (ap is_more e) tt
 
-following_more : (r : OneRead) (done n : ℕ) → following r done ≡ More n → given r ≡ n
-unfolding following
-following_more (Bytes k) done n e = ap more_of e
-following_more End done n e = absurd (more_over (sym e))
-following_more Failed done n e = absurd (more_over (sym e))
+following_more : (r : OneRead) (done n : ℕ) → following r done ≡ Continue n → given r ≡ n
+following_more (Ok (Some k)) done n e = ap more_of e
+following_more (Ok None) done n e = absurd (more_over (sym e))
+following_more (Err x) done n e = absurd (more_over (sym e))
 
 -- The last read gave no bytes.
-following_none : (r : OneRead) (done : ℕ) (i : Input) → following r done ≡ Over i → given r ≡ 0
-unfolding following
-following_none (Bytes k) done i e = absurd (more_over e)
-following_none End done i e = refl
-following_none Failed done i e = refl
+following_none : (r : OneRead) (done : ℕ) (i : Input) → following r done ≡ Break i → given r ≡ 0
+following_none (Ok (Some k)) done i e = absurd (more_over e)
+following_none (Ok None) done i e = refl
+following_none (Err x) done i e = refl
 
-following_over : (r : OneRead) (done room : ℕ) (i : Input) → following r done ≡ Over i → (read_count i room ≡ done) × (done < room → Short i room)
-unfolding following
-following_over (Bytes k) done room i e = absurd (more_over e)
-following_over End done room i e = subst (λ (j : Input). (read_count j room ≡ done) × (done < room → Short j room)) (ap over_of e) (refl, λ l. l)
-following_over Failed done room i e = subst (λ (j : Input). (read_count j room ≡ done) × (done < room → Short j room)) (ap over_of e) (refl, λ l. l)
+following_over : (r : OneRead) (done room : ℕ) (i : Input) → following r done ≡ Break i → (read_count i room ≡ done) × (done < room → Short i room)
+following_over (Ok (Some k)) done room i e = absurd (more_over e)
+following_over (Ok None) done room i e = subst (λ (j : Input). (read_count j room ≡ done) × (done < room → Short j room)) (ap over_of e) (refl, λ l. l)
+following_over (Err x) done room i e = subst (λ (j : Input). (read_count j room ≡ done) × (done < room → Short j room)) (ap over_of e) (refl, λ l. l)
 
 reads_short : {room : ℕ} {r : Input} {done : ℕ} → ReadSequence room r done → Short r room
 reads_short {room} (ReadSequence.full e) = subst (λ (i : Input). Short i room) (sym e) tt
@@ -101,14 +96,13 @@ module _ (entry buffer piece exit : List ℕ) (done : ℕ) (r : OneRead) (s : So
   stored_behind = ap (drop (done + given r)) m.bytes ∙ drop-paste buffer done piece (given r) (omega (arith, room)) m.front
       ∙ sym (drop-drop (given r) done buffer) ∙ ap (drop (given r)) s.behind ∙ drop-drop (given r) done entry
 
-  gave_some : (q : OneRead) (n : ℕ) → Gave (length buffer - done) q → following q done ≡ More n → 0 < n
-  unfolding following
-  gave_some (Bytes k) n g f = subst (λ (j : ℕ). 0 < j) (ap more_of f) g.0
-  gave_some End n g f = absurd (more_over (sym f))
-  gave_some Failed n g f = absurd (more_over (sym f))
+  gave_some : (q : OneRead) (n : ℕ) → Gave (length buffer - done) q → following q done ≡ Continue n → 0 < n
+  gave_some (Ok (Some k)) n g f = subst (λ (j : ℕ). 0 < j) (ap more_of f) g.0
+  gave_some (Ok None) n g f = absurd (more_over (sym f))
+  gave_some (Err x) n g f = absurd (more_over (sym f))
 
   -- The read gave n bytes.
-  pub so_far_more : (n : ℕ) → following r done ≡ More n → SoFar entry (done + n) exit × (0 < n)
+  pub so_far_more : (n : ℕ) → following r done ≡ Continue n → SoFar entry (done + n) exit × (0 < n)
   so_far_more n f =
       let e = following_more r done n f in
       let some = gave_some r n m.gave f in
@@ -123,7 +117,7 @@ module _ (entry buffer piece exit : List ℕ) (done : ℕ) (r : OneRead) (s : So
       )
 
   -- It was the last.
-  pub received : (i : Input) → following r done ≡ Over i → done < length entry → Received entry i exit
+  pub received : (i : Input) → following r done ≡ Break i → done < length entry → Received entry i exit
   received i f l =
       let e : done + given r ≡ read_count i (length entry) = omega (arith, following_none r done i f, (following_over r done (length entry) i f).0) in
       record {

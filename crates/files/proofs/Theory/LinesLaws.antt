@@ -8,8 +8,8 @@ use lib.ListN.{length, take}
 use lib.Seq.{take_all, length-take-le}
 use borrow.Author.Tests.{leb-true, leb-false}
 use Rattle.base.proofs.Theory.Choice.{by_test}
-use Rattle.files.specs.declared.Lines as files
-use Rattle.files.specs.declared.Lines.TheVariants.{Written, Unread}
+use Rattle.std.specs.Prelude.{Result, Ok, Err}
+use Rattle.files.specs.declared.Unread.{Unread}
 use Rattle.files.specs.Lines.{Known, bytes, unread, Answers}
 
 -- No more bytes than there are.
@@ -34,25 +34,25 @@ least_length n end s e = sym (length-take-le end s (within n (length s) end e))
 
 module _ (Prints : List ℕ → List ℕ → ℕ → List ℕ → Type 0) (k : Known) (s entry exit : List ℕ) where
   -- Bytes are to be judged, and their lines were written.
-  pub answers_bytes : (size : ℕ) → k ≡ bytes s → Prints s entry size exit → Answers Prints k entry (Written size) exit
-  answers_bytes size e p = subst (λ (q : Known). Answers Prints q entry (Written size) exit) (sym e) p
+  pub answers_bytes : (size : ℕ) → k ≡ bytes s → Prints s entry size exit → Answers Prints k entry (Ok size) exit
+  answers_bytes size e p = subst (λ (q : Known). Answers Prints q entry (Ok size) exit) (sym e) p
 
   -- The first n of them are, at most all.
   pub answers_first : (n end size : ℕ) → k ≡ bytes (take n s) → end ≡ min n (length s) → Prints (take end s) entry size exit
-      → Answers Prints k entry (Written size) exit
-  answers_first n end size e l p = subst (λ (q : Known). Answers Prints q entry (Written size) exit) (sym e)
+      → Answers Prints k entry (Ok size) exit
+  answers_first n end size e l p = subst (λ (q : Known). Answers Prints q entry (Ok size) exit) (sym e)
       (subst (λ (t : List ℕ). Prints t entry size exit) (ap (λ (i : ℕ). take i s) l ∙ take_least n s) p)
 
 -- There is nothing to judge.
-pub answers_unread : (Prints : List ℕ → List ℕ → ℕ → List ℕ → Type 0) (k : Known) (entry exit : List ℕ) → k ≡ unread → exit ≡ entry
-    → Answers Prints k entry Unread exit
-answers_unread Prints k entry exit e p = subst (λ (q : Known). Answers Prints q entry Unread exit) (sym e) p
+pub answers_unread : (Prints : List ℕ → List ℕ → ℕ → List ℕ → Type 0) (k : Known) (entry exit : List ℕ) (u : Unread) → k ≡ unread → exit ≡ entry
+    → Answers Prints k entry (Err u) exit
+answers_unread Prints k entry exit u e p = subst (λ (q : Known). Answers Prints q entry (Err u) exit) (sym e) p
 
 -- Lines that were written are those of some bytes.
-pub answers_written : (Prints : List ℕ → List ℕ → ℕ → List ℕ → Type 0) (k : Known) (entry exit : List ℕ) (r : files.Lines) (size : ℕ) → r ≡ Written size
+pub answers_written : (Prints : List ℕ → List ℕ → ℕ → List ℕ → Type 0) (k : Known) (entry exit : List ℕ) (r : Result ℕ Unread) (size : ℕ) → r ≡ Ok size
     → Answers Prints k entry r exit → (s : List ℕ) × Prints s entry size exit
-answers_written Prints k entry exit r size e x = go k (subst (λ (a : files.Lines). Answers Prints k entry a exit) e x)
+answers_written Prints k entry exit r size e x = go k (subst (λ (a : Result ℕ Unread). Answers Prints k entry a exit) e x)
   where
-    go : (k : Known) → Answers Prints k entry (Written size) exit → (s : List ℕ) × Prints s entry size exit
+    go : (k : Known) → Answers Prints k entry (Ok size) exit → (s : List ℕ) × Prints s entry size exit
     go (bytes s) p = (s, p)
     go unread p = absurd p

@@ -1,10 +1,10 @@
-use borrow.Author.Rules.{rules}
+use mathlib.Core.Path.{refl}
 use Rattle.layout_lines.proofs.answer.Goals as goal
 
 pub returns : goal.returns
 returns g c = record {
-  space = c.text_space-text.result;
-  room = search rules;
+  space = _;
+  room = refl;
   input = c.read-input.result;
   text = c.read-input.new.buffer;
   received = c.read-input.ensures;

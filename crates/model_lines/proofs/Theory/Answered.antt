@@ -5,16 +5,16 @@ use Prim.Native.Nat.{ℕ, ◌≤◌}
 use native.Mathlib.Omega.{arith}
 use lib.ListN.{length, take}
 use lib.Seq.{length-take-le}
-use Rattle.files.specs.declared.Lines as files
-use Rattle.files.specs.declared.Lines.TheVariants.{Written}
+use Rattle.std.specs.Prelude.{Result, Ok}
+use Rattle.files.specs.declared.Unread.{Unread}
 use Rattle.files.proofs.Theory.LinesLaws.{answers_written}
 use Rattle.text.proofs.Theory.Appending.{appended_length}
 use Rattle.model_lines.specs.Prints.{most_model_line_bytes, PrintsModelLine}
 use Rattle.model_lines.specs.Answered.{known_trace, AnswersTraceInput}
 
 -- A line that was written lies in the buffer.
-module _ (entry exit : List ℕ) (r : files.Lines) (x : AnswersTraceInput entry r exit) (room : most_model_line_bytes ≡ length entry) {size : ℕ}
-    (e : r ≡ Written size) where
+module _ (entry exit : List ℕ) (r : Result ℕ Unread) (x : AnswersTraceInput entry r exit) (room : most_model_line_bytes ≡ length entry) {size : ℕ}
+    (e : r ≡ Ok size) where
   written : (s : List ℕ) × PrintsModelLine s entry size exit
   written = answers_written PrintsModelLine (known_trace x.input x.behind x.buffer) entry exit r size e x.answers
 

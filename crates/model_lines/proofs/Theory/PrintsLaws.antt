@@ -1,14 +1,15 @@
 -- The line that is written is that of the trace.
 use mathlib.Core.Path.{◌≡◌, refl, sym, ap, ◌∙◌, subst}
-use mathlib.Core.List.{List, [], ◌∷◌, ◌++◌, append-nil, reverse}
+use mathlib.Core.List.{List, [], ◌∷◌, ◌++◌, reverse}
 use Prim.Native.Nat.{ℕ, ◌+◌, ◌*◌, ◌/◌, ◌%◌, ◌^◌, ◌≤◌, ◌<◌}
 use native.Mathlib.Omega.{arith}
 use native.Mathlib.Numerals.{add-one}
-use lib.Dec.{eqb, ltb}
+use lib.Dec.{eqb}
 use lib.ListN.{length, get_or, take, drop, length-append, length-reverse, drop_of_length-le}
 use lib.Seq.{drop-cons, take_at, length-take-le}
 use borrow.Author.Tests.{le-leb}
-use Rattle.io.specs.Digits.{hex_digit_ascii}
+use Rattle.io.specs.Digits.{hex_digit_ascii, last_digits, IsDigitCount}
+use Rattle.files.proofs.Theory.Digits.{width_kept}
 use Rattle.base.proofs.Theory.Choice.{by_test}
 use Rattle.letters.specs.declared.Header.{Header}
 use Rattle.letters.specs.declared.Letter.{Letter}
@@ -23,8 +24,6 @@ use Rattle.semantics.proofs.Theory.ShownPacked.{rows_length, starts_length}
 use Rattle.semantics.proofs.Theory.PackedTablesLaws.{packed_length}
 use Rattle.semantics.specs.FirstLetters.{first_infeasible}
 use Rattle.text.proofs.Theory.Numerals.{long_number}
-use Rattle.text.specs.Names.{name_text}
-use Rattle.text.proofs.Theory.Names.{name_back}
 use Rattle.text.specs.Templates.{part, filled_in}
 use Rattle.text.specs.Appending.{Appended, PlaceInRange}
 use Rattle.report.specs.Lines.{line, refused_line}
@@ -40,23 +39,21 @@ use Rattle.model_lines.specs.Prints.{PrintsModelLine}
 use Rattle.model_lines.specs.Written.{most_model, ModelWithin, WroteLine}
 
 -- ── lines as templates with their fields ──
-glyph_byte : (d : ℕ) → d < 16 → (0 < hex_digit_ascii d) × (hex_digit_ascii d < 256)
-glyph_byte d h = by_test (ltb d 10) (λ t. rw t (omega arith, omega arith)) λ t. rw t (omega arith, omega arith)
+-- the first two of some bytes
+front_two : (digits : List ℕ) (a b : ℕ) → take 2 digits ≡ a ∷ b ∷ [] → a ∷ b ∷ [] ≡ get_or digits 0 0 ∷ get_or digits 1 0 ∷ []
+front_two [] a b e = cc
+front_two (x ∷ []) a b e = cc
+front_two (x ∷ y ∷ rest) a b e = sym e
 
--- "0", with a name of two bytes
-pub octet_form : (byte value : ℕ) → value ≡ byte → value < 256 → octet_text byte ≡ filled_in (48 ∷ [])
-    ((hex_digit_ascii (value / 16) + 256 * hex_digit_ascii (value % 16)) ∷ 0 ∷ 0 ∷ 0 ∷ [])
-unfolding octet_text filled_in part
-octet_form byte value e h =
-    let (a, b) = glyph_byte (value / 16) (omega arith) in
-    let (c, d) = glyph_byte (value % 16) (omega arith) in
-    let text : List ℕ = hex_digit_ascii (value / 16) ∷ hex_digit_ascii (value % 16) ∷ [] in
-    sym (append-nil (name_text (hex_digit_ascii (value / 16) + 256 * hex_digit_ascii (value % 16)))
-    ∙ ap name_text (number_is (hex_digit_ascii (value / 16)) (hex_digit_ascii (value % 16))) ∙ name_back text (a, b, (c, d, tt)) ∙ ap
-    (λ (n : ℕ). hex_digit_ascii (n / 16) ∷ hex_digit_ascii (n % 16) ∷ []) e)
-  where
-    number_is : (a b : ℕ) → a + 256 * b ≡ a + 256 * (b + 256 * 0)
-    number_is a b = omega arith
+-- the digits of a byte as `io::hex` writes them
+pub octet_digits : (byte count : ℕ) (digits : List ℕ) → byte < 256 → IsDigitCount 16 2 byte count → take count digits ≡ last_digits 16 count byte
+    → octet_text byte ≡ get_or digits 0 0 ∷ get_or digits 1 0 ∷ []
+unfolding octet_text
+octet_digits byte count digits h l e =
+    let two = width_kept 2 byte count h l.0 l.2 in
+    let high : byte / 16 ≡ byte / 16 % 16 = omega arith in
+    ap (λ (d : ℕ). hex_digit_ascii d ∷ hex_digit_ascii (byte % 16) ∷ []) high
+    ∙ front_two digits _ _ (subst (λ (k : ℕ). take k digits ≡ last_digits 16 k byte) two e)
 
 -- "infeasible 4"
 pub infeasible_form : (n : ℕ) → infeasible_line n ≡ filled_in (105 ∷ 110 ∷ 102 ∷ 101 ∷ 97 ∷ 115 ∷ 105 ∷ 98 ∷ 108 ∷ 101 ∷ 32 ∷ 52 ∷ 10 ∷ []) (n ∷ 0 ∷ 0 ∷ 0 ∷ [])

@@ -1,10 +1,10 @@
-use borrow.Author.Rules.{rules}
+use mathlib.Core.Path.{refl}
 use Rattle.model_lines.proofs.answer.Goals as goal
 
 pub returns : goal.returns
 returns g c = record {
-  space = c.trace_space-trace.result;
-  room = search rules;
+  space = _;
+  room = refl;
   input = c.read-input.result;
   behind = c.rest_of-rest.result;
   buffer = c.read-input.new.buffer;

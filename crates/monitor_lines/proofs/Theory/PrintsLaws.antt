@@ -12,7 +12,7 @@ use Rattle.letters.specs.Answers.{Answer}
 use Rattle.text.proofs.Theory.Numerals.{long_number}
 use Rattle.text.specs.Templates.{part, filled_in}
 use Rattle.text.specs.Appending.{Appended, PlaceInRange}
-use Rattle.text.proofs.Theory.Appending.{appended_then, appended_length, room_first, room_then}
+use Rattle.text.proofs.Theory.Appending.{appended_length, room_first, room_then}
 use Rattle.report.specs.Lines.{line, refused_line}
 use Rattle.report.proofs.Theory.Bound.{refused_few}
 use Rattle.model_lines.specs.Prints.{infeasible_line}
@@ -68,17 +68,14 @@ module _ (k n : ℕ) (h : k < 2 ^ 64) (l : n < 2 ^ 64) where
     pub feasibility_room : PlaceInRange next (feasibility_line n)
     feasibility_room = room_then (coherence_line k) (feasibility_line n) (few_room (judged_few k n h l)) a
 
-    pub judged_prints : (v : RunAnswer) {exit : List ℕ} {size : ℕ} → v ≡ Judged k n → Appended middle next (feasibility_line n) exit size
-        → PrintsMonitorLines (run_answer v) entry size exit
-    unfolding answer_lines
-    judged_prints v {exit} {size} e b = subst (λ (w : RunAnswer). PrintsMonitorLines (run_answer w) entry size exit)
-        (sym e) record { few = judged_few k n h l; appended = appended_then (coherence_line k) (feasibility_line n) a b }
+  pub judged_prints : (v : RunAnswer) {entry exit : List ℕ} {size : ℕ} → v ≡ Judged k n → Appended entry 0 (coherence_line k ++ feasibility_line n) exit size
+      → PrintsMonitorLines (run_answer v) entry size exit
+  unfolding answer_lines
+  judged_prints v {entry} {exit} {size} e a = subst (λ (w : RunAnswer). PrintsMonitorLines (run_answer w) entry size exit)
+      (sym e) record { few = judged_few k n h l; appended = a }
 
 -- ── the line of a refusal ──
 module _ (number place : ℕ) (h : number < 2 ^ 64) (l : place < 2 ^ 64) where
-  pub refused_room : PlaceInRange 0 (refused_line number place)
-  refused_room = few_room (refused_few (omega arith) number place h l)
-
   pub refused_prints : (v : RunAnswer) {entry exit : List ℕ} {size : ℕ} → v ≡ Refused number place → Appended entry 0 (refused_line number place) exit size
       → PrintsMonitorLines (run_answer v) entry size exit
   unfolding answer_lines

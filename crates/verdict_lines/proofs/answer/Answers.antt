@@ -1,12 +1,12 @@
-use borrow.Author.Rules.{rules}
+use mathlib.Core.Path.{refl}
 use Rattle.verdict_lines.proofs.answer.Goals as goal
 
 pub returns : goal.returns
 returns g c =
     let read = c.read-input in
     record {
-      space = c.text_space-text.result;
-      room = search rules;
+      space = _;
+      room = refl;
       input = read.result;
       text = read.new.buffer;
       received = read.ensures;
