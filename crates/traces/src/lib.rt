@@ -44,9 +44,9 @@ fn read_letters(h: Header, bytes: &[u8]) -> Result<(Header, u64), Refused>
 {
     let (letters, _) = bytes[UNIT_BYTES..].as_chunks::<UNIT_BYTES>();
     for (i, &[high, low]) in letters.iter().enumerate() {
-        if decode_letter(h, word(high, low)).is_none() {
+        let Some(_) = decode_letter(h, word(high, low)) else {
             return Err(Reason::LetterMalformed.at(i as u64 + 1));
-        }
+        };
     }
     Ok((h, letters.len() as u64))
 }

@@ -1,4 +1,4 @@
-use Rattle.std.proofs.Common.{arith, ap, sym, ◌∙◌}
+use Rattle.std.proofs.Common.{arith, ap, sym, ◌∙◌, is_some}
 use Rattle.letters.specs.Editions.{first_edition}
 use Rattle.traces.specs.Reading.{letter_in}
 use Rattle.traces.specs.ReadingParts.{counted}
@@ -13,13 +13,13 @@ pub loop-i-preserved : goal.loop-i-preserved
 loop-i-preserved c =
     let unit = piece_of 2 c.loop-i.i _ _ _ c.as_chunks.ensures.front (omega arith) (omega arith) in
     let read = unit_read c.args.h _ _ _ unit c.word.ensures c.decode_letter.ensures in
-    sym (count_good (letter_in first_edition c.args.h) c.args.h _ c.loop-i.i _ _ (omega arith) read c.if-is_none.ensures) ∙ c.loop-i.invariant
+    sym (count_good (letter_in first_edition c.args.h) c.args.h _ c.loop-i.i _ _ (omega arith) read (ap is_some c.in-Some.is)) ∙ c.loop-i.invariant
 
-pub returns-then-is_none : goal.returns-then-is_none
-returns-then-is_none c =
+pub returns-in_default : goal.returns-in_default
+returns-in_default c =
     let unit = piece_of 2 c.loop-i.i _ _ _ c.as_chunks.ensures.front (omega arith) (omega arith) in
     let read = unit_read c.args.h _ _ _ unit c.word.ensures c.decode_letter.ensures in
-    rw c.at.ensures (sym (count_bad (letter_in first_edition c.args.h) c.args.h _ c.loop-i.i _ _ (omega arith) read c.if-is_none.ensures)
+    rw c.at.ensures (sym (count_bad (letter_in first_edition c.args.h) c.args.h _ c.loop-i.i _ _ (omega arith) read (ap is_some c.in_default.is))
     ∙ c.loop-i.invariant)
 
 pub returns : goal.returns
