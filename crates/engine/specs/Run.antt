@@ -1,5 +1,5 @@
 -- The engine's run over the letters of a trace.
-use Rattle.std.specs.Prelude.{◌≡◌, List, ◌++◌, ℕ, ◌+◌, ◌-◌, ◌*◌, ◌≤◌, length, get_or, drop, Option, Some, None}
+use Rattle.std.specs.Prelude.{◌≡◌, List, ◌++◌, ℕ, ◌+◌, ◌-◌, ◌*◌, ◌≤◌, length, get_or, drop, Option, Some, None, Result, Ok, Err}
 use Rattle.base.specs.Each.{each_up_to}
 use Rattle.letters.specs.declared.Header.{Header}
 use Rattle.letters.specs.declared.Letter.{Letter}
@@ -13,8 +13,8 @@ use Rattle.letters.specs.RefusalNumbers.{letter_malformed}
 use Rattle.semantics.specs.Models.{Feasible}
 use Rattle.semantics.specs.Judgement.{FailsAt}
 use Rattle.semantics.specs.FirstLetters.{first_infeasible}
-use Rattle.engine.specs.declared.EngineOutcome.{EngineOutcome}
-use Rattle.engine.specs.declared.EngineOutcome.TheVariants as outcome
+use Rattle.letters.specs.declared.reasons.Reason.TheVariants.{LetterMalformed}
+use Rattle.letters.specs.declared.reasons.Refused.{Refused}
 use Rattle.closure.specs.declared.Terms.{Terms}
 use Rattle.engine.specs.Engine.{Engine, Computed}
 use Rattle.engine.specs.declared.Progress.{Progress}
@@ -63,17 +63,17 @@ RunningIn s h count t p k = Running s h count t.function t.first t.second t.repr
 
 -- What a run answers: the first letter that is not well formed; the first infeasible letter, where the letters after it are still to be read;
 -- or that all are feasible, and the arrays then hold the n computed terms and their classes.
-pub data Ran (s : List ℕ) (h : Header) (count : ℕ) (function first second representative : List ℕ) (n : ℕ) : EngineOutcome → Type 0 where
+pub data Ran (s : List ℕ) (h : Header) (count : ℕ) (function first second representative : List ℕ) (n : ℕ) : Result (Option ℕ) Refused → Type 0 where
   malformed : (k : ℕ) → letters_of first_edition h s ≡ TraceReading.refused letter_malformed k
-      → Ran s h count function first second representative n (outcome.Malformed k)
+      → Ran s h count function first second representative n (Err (record { reason = LetterMalformed; place = k }))
   infeasible : (k : ℕ) (ls : List Letter) → letters_of first_edition h s ≡ behind ls (reading_from s h count k)
       → FailsAt (λ π. Feasible (state π)) (trace_of h ls) k → 1 ≤ k
-      → Ran s h count function first second representative n (outcome.Infeasible k)
+      → Ran s h count function first second representative n (Ok (Some k))
   feasible : (ls : List Letter) → letters_of first_edition h s ≡ trace h ls → 0 ≡ first_infeasible (trace_of h ls)
       → Computed (state (trace_of h ls)) function first second representative h.registers n
-      → Ran s h count function first second representative n outcome.Feasible
+      → Ran s h count function first second representative n (Ok None)
 
-abbrev pub RanTo : (s : List ℕ) (h : Header) (count : ℕ) → Terms → EngineOutcome → Type 0
+abbrev pub RanTo : (s : List ℕ) (h : Header) (count : ℕ) → Terms → Result (Option ℕ) Refused → Type 0
 RanTo s h count t = Ran s h count t.function t.first t.second t.representative t.count
 
 -- What is said of the letters from some number on: all are well formed, or the number of the first that is not, from 1.

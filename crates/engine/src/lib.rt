@@ -14,6 +14,7 @@ ghost use Rattle.engine.specs.Run.{Begun, BlankTerms, Began, RunningIn, RanTo, r
 
 use closure::{CHAINS, Index, Numbers, REGISTERS, TERMS, Terms, Tests};
 use letters::limits::{MOST_LETTERS, UNIT_BYTES};
+use letters::reasons::{Reason, Refused};
 use letters::{Header, Letter, words};
 
 // What is known of the letters so far, beside the computed terms.
@@ -25,17 +26,6 @@ struct Progress {
     value: [u16; REGISTERS],
     // The unequal tests.
     tests: Tests,
-}
-
-/// How a run over a trace ends: behind the last letter, or at the first that is infeasible or not well formed.
-#[derive(Clone, Copy)]
-pub enum EngineOutcome {
-    /// All letters are feasible.
-    Feasible,
-    /// The number of the first infeasible letter, from 1. The letters after it were not read.
-    Infeasible(u64),
-    /// The number of the first letter that is not well formed, from 1.
-    Malformed(u64),
 }
 
 // The class of the application that the index has, or of the new one.
@@ -145,23 +135,22 @@ impl Progress {
         header: Header,
         trace: &[u8],
         letters: usize,
-    ) -> EngineOutcome
+    ) -> Result<Option<u64>, Refused>
         requires { Begun trace.now header letters × RunningIn trace.now header letters terms.old self.old 0 × (terms.old.registers ≡ header.registers) }
         ensures ran { RanTo trace.now header letters terms.new result }
         ensures registers { terms.new.registers ≡ header.registers }
     {
         for k in 0..letters {
-            let decoded = traces::letter_at(header, trace, k);
-            let Some(letter) = decoded else {
-                return EngineOutcome::Malformed(k as u64 + 1);
+            let Some(letter) = traces::letter_at(header, trace, k) else {
+                return Err(Reason::LetterMalformed.at(k as u64 + 1));
             };
             self.step(terms, letter);
             if self.tests.clash(terms) {
-                return EngineOutcome::Infeasible(k as u64 + 1);
+                return Ok(Some(k as u64 + 1));
             }
             self.tests.parted = self.tests.count;
         }
-        EngineOutcome::Feasible
+        Ok(None)
     }
 }
 
@@ -191,9 +180,15 @@ pub fn first_malformed(header: Header, trace: &[u8], letters: usize, k: usize) -
     None
 }
 
-/// Runs over the letters of a trace whose header was read. Unless one is infeasible or not well formed, `terms` then has the computed
-/// terms and their classes. Left free: what it has else, and the entries past the computed terms.
-pub fn run(header: Header, trace: &[u8], letters: usize, terms: &mut Terms) -> EngineOutcome
+/// Runs over the letters of a trace whose header was read. The answer is the number of the first infeasible letter, from 1, behind which none
+/// was read, or none; or the refusal of the first letter that is not well formed. Where there is neither, `terms` has the computed terms and
+/// their classes. Left free: what it has else, and the entries past the computed terms.
+pub fn run(
+    header: Header,
+    trace: &[u8],
+    letters: usize,
+    terms: &mut Terms,
+) -> Result<Option<u64>, Refused>
     requires { Begun trace.now header letters × BlankTerms terms.old }
     ensures ran { RanTo trace.now header letters terms.new result }
     ensures registers { terms.new.registers ≡ header.registers }

@@ -11,8 +11,10 @@ use Rattle.streaming.specs.declared.RunAnswer.{RunAnswer}
 use Rattle.streaming.specs.declared.RunAnswer.TheVariants.{Judged, Refused}
 use Rattle.letters.specs.Editions.{first_edition, most_letters}
 use Rattle.traces.specs.ReadingParts.{reading_within}
-use Rattle.model_writer.specs.Answer.{shown_answer, answer_to, output_after, Means, Showed}
-use Rattle.model_writer.specs.declared.Shown.{Shown}
+use Rattle.model_writer.specs.Answer.{ShowResult, shown_answer, answer_to, output_after, Means, Showed}
+use Rattle.std.specs.Prelude.{Ok, Err}
+use Rattle.letters.specs.declared.reasons.Refused as reasons
+use Rattle.letters.specs.Reasons.{number_of}
 use Rattle.model_writer.specs.declared.Shown.TheVariants as shown
 use Rattle.syntax.specs.Reads.{Reads}
 use Rattle.syntax.specs.declared.MacroRead.{MacroRead}
@@ -63,23 +65,23 @@ monitored_stored trace stored answer answer' v e same = laid_stored 4 _ stored a
 
 -- ---- The shown model
 
-pub numbers_model : (s : Shown) (bytes : ℕ) → s ≡ shown.Model bytes → 0 ∷ 0 ∷ 0 ∷ bytes ∷ [] ≡ model_numbers (shown_answer s)
+pub numbers_model : (s : ShowResult) (bytes : ℕ) → s ≡ Ok (shown.Model bytes) → 0 ∷ 0 ∷ 0 ∷ bytes ∷ [] ≡ model_numbers (shown_answer s)
 unfolding model_numbers
 numbers_model s bytes e = rw e refl
 
-pub numbers_infeasible : (s : Shown) (letter : ℕ) → s ≡ shown.Infeasible letter → 0 ∷ 0 ∷ letter ∷ 0 ∷ [] ≡ model_numbers (shown_answer s)
+pub numbers_infeasible : (s : ShowResult) (letter : ℕ) → s ≡ Ok (shown.Infeasible letter) → 0 ∷ 0 ∷ letter ∷ 0 ∷ [] ≡ model_numbers (shown_answer s)
 unfolding model_numbers
 numbers_infeasible s letter e = rw e refl
 
-pub numbers_unshown : (s : Shown) (number place : ℕ) → s ≡ shown.Refused number place → number ∷ place ∷ 0 ∷ 0 ∷ [] ≡ model_numbers (shown_answer s)
+pub numbers_unshown : (s : ShowResult) (e : reasons.Refused) (number : ℕ) → s ≡ Err e → number ≡ number_of e.reason → number ∷ e.place ∷ 0 ∷ 0 ∷ [] ≡ model_numbers (shown_answer s)
 unfolding model_numbers
-numbers_unshown s number place e = rw e refl
+numbers_unshown s e number q g = rw (q, g) refl
 
 pub modelled_short : (trace : List ℕ) (room : ℕ) (answer : List ℕ) → length answer < 4 → answer ≡ modelled trace room answer
 unfolding modelled
 modelled_short trace room answer short = laid_short 4 _ answer short
 
-pub modelled_stored : (trace : List ℕ) (room : ℕ) (stored answer answer' : List ℕ) (s : Shown)
+pub modelled_stored : (trace : List ℕ) (room : ℕ) (stored answer answer' : List ℕ) (s : ShowResult)
     → shown_answer s ≡ answer_to (reading_within most_letters first_edition trace) room → stored ≡ model_numbers (shown_answer s) → length stored ≡ 4
     → 4 ≤ length answer → answer' ≡ stored ++ drop (length stored) answer → answer' ≡ modelled trace room answer
 unfolding modelled
@@ -94,7 +96,7 @@ pub output_shown : (trace out out' answer : List ℕ) → 4 ≤ length answer �
 unfolding model_output
 output_shown trace out out' answer room e = rw (le-ltb (length answer) 4 room) e
 
-pub model_means : {trace out out' : List ℕ} {s : Shown} → Showed trace out s out' → ModelMeans trace out out'
+pub model_means : {trace out out' : List ℕ} {s : ShowResult} → Showed trace out s out' → ModelMeans trace out out'
 model_means {trace} {out} {out'} w = subst (λ a. Means trace out a out') w.answer w.means
 
 -- ---- The reader

@@ -12,6 +12,7 @@ ghost use Rattle.exports.specs.Held.{held_numbers};
 ghost use Rattle.search.specs.Answering as search;
 ghost use Rattle.exports.specs.Judging.{verdict_numbers, Judging};
 
+use letters::reasons::Refused;
 use model_writer::Shown;
 use search::Verdict;
 use streaming::RunAnswer;
@@ -67,13 +68,13 @@ pub extern "C" fn fadzgime_monitor(trace: &[u8], answer: &mut [u64])
 }
 
 // The numbers of what is shown for a trace.
-fn model_numbers(shown: Shown) -> [u64; MODEL_NUMBERS]
+fn model_numbers(shown: Result<Shown, Refused>) -> [u64; MODEL_NUMBERS]
     ensures { result ≡ model_numbers (shown_answer shown) }
 {
     match shown {
-        Shown::Model(bytes) => [0, 0, 0, bytes as u64],
-        Shown::Infeasible(letter) => [0, 0, letter, 0],
-        Shown::Refused(number, place) => [number as u64, place, 0, 0],
+        Ok(Shown::Model(bytes)) => [0, 0, 0, bytes as u64],
+        Ok(Shown::Infeasible(letter)) => [0, 0, letter, 0],
+        Err(refused) => [u8::from(refused.reason) as u64, refused.place, 0, 0],
     }
 }
 

@@ -1,6 +1,6 @@
 -- The line of the model program for the bytes of a trace: a refusal, the first infeasible letter, or the shown model in
 -- hexadecimal (SPEC 12.4; document 01).
-use Rattle.std.specs.Prelude.{List, [], ◌∷◌, ◌++◌, ℕ, ◌/◌, ◌%◌, ◌≤◌, eqb, length, take}
+use Rattle.std.specs.Prelude.{Ok, Err, List, [], ◌∷◌, ◌++◌, ℕ, ◌/◌, ◌%◌, ◌≤◌, eqb, length, take}
 use Rattle.io.specs.Digits.{hex_digit_ascii}
 use Rattle.base.specs.Choice.{pick}
 use Rattle.letters.specs.Editions.{first_edition, most_letters}
@@ -11,9 +11,9 @@ use Rattle.semantics.specs.FirstLetters.{first_infeasible}
 use Rattle.text.specs.Numerals.{numeral}
 use Rattle.text.specs.Appending.{Appended}
 use Rattle.report.specs.Lines.{line, refused_line}
-use Rattle.model_writer.specs.declared.Shown.{Shown}
-use Rattle.model_writer.specs.declared.Shown.TheVariants.{Model, Infeasible, Refused}
-use Rattle.model_writer.specs.Answer.{model_bytes}
+use Rattle.model_writer.specs.declared.Shown.TheVariants.{Model, Infeasible}
+use Rattle.letters.specs.Reasons.{number_of}
+use Rattle.model_writer.specs.Answer.{ShowResult, model_bytes}
 
 -- The digits of bytes, two for each, the higher first.
 unfoldable pub octet_text : ℕ → List ℕ
@@ -48,10 +48,10 @@ abbrev pub line_for : List ℕ → List ℕ
 line_for s = read_line (reading_within most_letters first_edition s)
 
 -- The line of an answer, whose model is in the front of some bytes.
-unfoldable pub line_of : Shown → List ℕ → List ℕ
-line_of (Model n) out = model_line (take n out)
-line_of (Infeasible letter) out = infeasible_line letter
-line_of (Refused number place) out = refused_line number place
+unfoldable pub line_of : ShowResult → List ℕ → List ℕ
+line_of (Ok (Model n)) out = model_line (take n out)
+line_of (Ok (Infeasible letter)) out = infeasible_line letter
+line_of (Err r) out = refused_line (number_of r.reason) r.place
 
 -- No line is longer.
 abbrev pub most_model_line_bytes : ℕ

@@ -9,6 +9,7 @@ ghost use Rattle.model_lines.specs.Written.{ModelWithin, WroteLine};
 ghost use Rattle.model_lines.specs.Answered.{parity_of, left_of, known_long, known_trace, AnswersTraceInput};
 
 use files::{Input, Source, Unread};
+use letters::reasons::Refused;
 use model_writer::Shown;
 use std::io::Read;
 use std::ops::ControlFlow;
@@ -87,14 +88,14 @@ fn write_infeasible(letter: u64, out: &mut [u8]) -> usize
 }
 
 // Writes the line of an answer, whose model, if there is one, is in the front of `model`.
-fn write_answer(answer: Shown, model: &[u8], out: &mut [u8]) -> usize
+fn write_answer(answer: Result<Shown, Refused>, model: &[u8], out: &mut [u8]) -> usize
     requires { ModelWithin answer (length model.now) }
     ensures { WroteLine out.old answer model.now result out.new }
 {
     match answer {
-        Shown::Model(n) => write_model(&model[..n], out),
-        Shown::Infeasible(letter) => write_infeasible(letter, out),
-        Shown::Refused(number, place) => report::write_refused(number, place, out),
+        Ok(Shown::Model(n)) => write_model(&model[..n], out),
+        Ok(Shown::Infeasible(letter)) => write_infeasible(letter, out),
+        Err(refused) => report::write_refused(u8::from(refused.reason), refused.place, out),
     }
 }
 

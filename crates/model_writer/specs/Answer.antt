@@ -1,8 +1,10 @@
 -- What the whole-trace engine answers (SPEC 7.1; document 01; questions of SPEC 11.2: 1, 2, 3, 5, 4, then 6 where a due model does not fit).
-use Rattle.std.specs.Prelude.{◌≡◌, List, ◌++◌, reverse, ℕ, ◌≤◌, ◌<◌, eqb, leb, length, take, drop}
+use Rattle.std.specs.Prelude.{◌≡◌, Result, Ok, Err, List, ◌++◌, reverse, ℕ, ◌≤◌, ◌<◌, eqb, leb, length, take, drop}
 use Rattle.base.specs.Choice.{pick}
 use Rattle.letters.specs.declared.Header.{Header}
 use Rattle.letters.specs.declared.Letter.{Letter}
+use Rattle.letters.specs.declared.reasons.Refused.{Refused}
+use Rattle.letters.specs.Reasons.{number_of}
 use Rattle.letters.specs.Editions.{first_edition, most_letters}
 use Rattle.letters.specs.Letters.{HeaderFits}
 use Rattle.traces.specs.Reading.{TraceReading, trace, reading}
@@ -27,10 +29,14 @@ pub data ModelAnswer : Type 0 where
   infeasible : ℕ → ModelAnswer
   refusal : ℕ → ℕ → ModelAnswer
 
-abbrev pub shown_answer : Shown → ModelAnswer
-shown_answer (shown.Model n) = ModelAnswer.model n
-shown_answer (shown.Infeasible k) = ModelAnswer.infeasible k
-shown_answer (shown.Refused number place) = ModelAnswer.refusal number place
+-- what the code answers
+abbrev pub ShowResult : Type 0
+ShowResult = Result Shown Refused
+
+abbrev pub shown_answer : ShowResult → ModelAnswer
+shown_answer (Ok (shown.Model n)) = ModelAnswer.model n
+shown_answer (Ok (shown.Infeasible k)) = ModelAnswer.infeasible k
+shown_answer (Err r) = ModelAnswer.refusal (number_of r.reason) r.place
 
 -- The bytes of the shown model of a state.
 unfoldable pub model_bytes : State → List ℕ
@@ -105,7 +111,7 @@ Means s out (ModelAnswer.infeasible k) out' = LetterNamed s out k out'
 Means s out (ModelAnswer.refusal number place) out' = RefusedFor s out number place × (out' ≡ out)
 
 -- The bytes s are answered, with the output out before and out' after. The two equations settle the answer and the output; what they mean follows.
-pub record Showed (s out : List ℕ) (r : Shown) (out' : List ℕ) : Type 0 where
+pub record Showed (s out : List ℕ) (r : ShowResult) (out' : List ℕ) : Type 0 where
   pub answer : shown_answer r ≡ answer_to (reading_within most_letters first_edition s) (length out)
   pub output : out' ≡ output_after (reading_within most_letters first_edition s) out
   pub means : Means s out (shown_answer r) out'

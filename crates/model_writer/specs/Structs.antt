@@ -13,7 +13,7 @@ use Rattle.model_writer.specs.Bytes.{word_for, words_for, RowIn, StartsFit, Rows
 use Rattle.model_writer.specs.Fitting.{Puttable, Put}
 use Rattle.model_writer.specs.Stages.{SomeStateComputed, Modelled}
 use Rattle.model_writer.specs.declared.Model.{Model}
-use Rattle.model_writer.specs.declared.Shown.{Shown}
+use Rattle.model_writer.specs.Answer.{ShowResult}
 
 abbrev pub NumberableTerms : Terms → List ℕ → Type 0
 NumberableTerms t values = Numberable t.representative t.count values
@@ -56,11 +56,11 @@ WritableModel h t m room = Writable h m.values t.function t.first t.second m.row
 abbrev pub PuttableModel : Header → Terms → Model → (room : ℕ) → Type 0
 PuttableModel h t m room = Puttable h m.values t.function t.first t.second m.rows m.count m.rows_count room
 
-abbrev pub PutModel : Header → Terms → Model → (out : List ℕ) → Shown → List ℕ → Type 0
+abbrev pub PutModel : Header → Terms → Model → (out : List ℕ) → ShowResult → List ℕ → Type 0
 PutModel h t m out r out' = Put h m.values t.function t.first t.second m.rows m.count m.rows_count out r out'
 
 abbrev pub ComputedTerms : Header → Terms → Type 0
 ComputedTerms h t = SomeStateComputed h t.function t.first t.second t.representative t.count
 
-abbrev pub ModelledTerms : Header → Terms → (out : List ℕ) → Shown → List ℕ → Type 0
+abbrev pub ModelledTerms : Header → Terms → (out : List ℕ) → ShowResult → List ℕ → Type 0
 ModelledTerms h t out r out' = Modelled h t.function t.first t.second t.representative t.count out r out'

@@ -14,9 +14,8 @@ ghost use Rattle.model_writer.specs.Structs.{NumberableTerms, RowBefore, NewRowI
 ghost use Rattle.model_writer.specs.Structs.{WritableModel, tables_of_model, PuttableModel, PutModel, ComputedTerms, ModelledTerms};
 
 use closure::{CHAINS, Index, Numbers, TERMS, Terms};
-use engine::EngineOutcome;
 use letters::limits::{MOST_LETTERS, UNIT_BYTES};
-use letters::refusal_numbers::{LETTER_MALFORMED, OUTPUT_TOO_SMALL, TRACE_TOO_LONG};
+use letters::reasons::{Reason, Refused};
 use letters::{Header, words};
 
 // The bytes of a row, and of the other numbers of a model.
@@ -38,15 +37,13 @@ const ROW_FIRST: u64 = VALUE_RANGE * ROW_SECOND;
 
 const ROW_FUNCTION: u64 = VALUE_RANGE * ROW_FIRST;
 
-/// What is shown for a trace: a model of so many bytes, the first infeasible letter, or a refusal, its number and place.
-#[derive(Clone, Copy)]
+/// What is shown for a trace.
+#[derive(Clone, Copy, Debug, PartialEq, Eq)]
 pub enum Shown {
     /// A model of so many bytes was written to the front of the output.
     Model(usize),
     /// The number of the first infeasible letter, from 1.
     Infeasible(u64),
-    /// The number and the place of a refusal.
-    Refused(u8, u64),
 }
 
 // The model of the computed terms: a value for each term, and the applications that have a row.
@@ -183,7 +180,7 @@ impl Model {
     }
 
     // Writes the model where it fits the output.
-    fn put(&self, header: Header, terms: &Terms, out: &mut [u8]) -> Shown
+    fn put(&self, header: Header, terms: &Terms, out: &mut [u8]) -> Result<Shown, Refused>
         requires { PuttableModel header terms.now self.now (length out.old) }
         ensures { PutModel header terms.now self.now out.old result out.new }
     {
@@ -191,15 +188,15 @@ impl Model {
             + WORD_BYTES * (header.registers as usize)
             + ROW_BYTES * self.rows_count;
         if out.len() < length {
-            return Shown::Refused(OUTPUT_TOO_SMALL, 0);
+            return Err(Reason::OutputTooSmall.at(0));
         }
         self.write(header, terms, out);
-        Shown::Model(length)
+        Ok(Shown::Model(length))
     }
 }
 
 // Shows the model of the computed terms where it fits the output.
-fn show_model(header: Header, terms: &Terms, out: &mut [u8]) -> Shown
+fn show_model(header: Header, terms: &Terms, out: &mut [u8]) -> Result<Shown, Refused>
     requires { ComputedTerms header terms.now × (terms.now.registers ≡ header.registers) }
     ensures { ModelledTerms header terms.now out.old result out.new }
 {
@@ -215,18 +212,23 @@ fn show_model(header: Header, terms: &Terms, out: &mut [u8]) -> Shown
 }
 
 // Names the first infeasible letter k, unless a letter after it is not well formed: question 4 is asked of all letters.
-fn name_infeasible(header: Header, trace: &[u8], letters: usize, k: u64) -> Shown
+fn name_infeasible(header: Header, trace: &[u8], letters: usize, k: u64) -> Result<Shown, Refused>
     requires { Begun trace.now header letters }
     ensures { Stopped header (reading_from trace.now header letters k) k result }
 {
     match engine::first_malformed(header, trace, letters, k as usize) {
-        None => Shown::Infeasible(k),
-        Some(broken) => Shown::Refused(LETTER_MALFORMED, broken),
+        None => Ok(Shown::Infeasible(k)),
+        Some(broken) => Err(Reason::LetterMalformed.at(broken)),
     }
 }
 
 // Shows what is due for a trace whose header was read.
-fn show_trace(header: Header, trace: &[u8], letters: usize, out: &mut [u8]) -> Shown
+fn show_trace(
+    header: Header,
+    trace: &[u8],
+    letters: usize,
+    out: &mut [u8],
+) -> Result<Shown, Refused>
     requires { Begun trace.now header letters }
     ensures { Showed trace.now out.old result out.new }
 {
@@ -238,28 +240,22 @@ fn show_trace(header: Header, trace: &[u8], letters: usize, out: &mut [u8]) -> S
         second: [0; TERMS],
         representative: [0; TERMS],
     };
-    match engine::run(header, trace, letters, &mut terms) {
-        EngineOutcome::Malformed(k) => Shown::Refused(LETTER_MALFORMED, k),
-        EngineOutcome::Infeasible(k) => name_infeasible(header, trace, letters, k),
-        EngineOutcome::Feasible => show_model(header, &terms, out),
+    match engine::run(header, trace, letters, &mut terms)? {
+        Some(k) => name_infeasible(header, trace, letters, k),
+        None => show_model(header, &terms, out),
     }
 }
 
 /// Judges a packed trace of at most 1,024 letters: writes its shown model to the front of the output if it is feasible, else names
 /// the first infeasible letter. The written bytes read back to the tables that SPEC 7 asks for, in which all tests hold; where a letter
 /// is named, no model satisfies all tests (`specs/Answer.antt`, `Means`).
-pub fn show(trace: &[u8], out: &mut [u8]) -> Shown
+pub fn show(trace: &[u8], out: &mut [u8]) -> Result<Shown, Refused>
     ensures { Showed trace.now out.old result out.new }
 {
-    let begun = traces::read_beginning(trace);
-    match begun {
-        Err(refused) => Shown::Refused(u8::from(refused.reason), refused.place),
-        Ok(header) => {
-            let letters = trace.len() / UNIT_BYTES - 1;
-            if MOST_LETTERS < letters {
-                return Shown::Refused(TRACE_TOO_LONG, 0);
-            }
-            show_trace(header, trace, letters, out)
-        }
+    let header = traces::read_beginning(trace)?;
+    let letters = trace.len() / UNIT_BYTES - 1;
+    if MOST_LETTERS < letters {
+        return Err(Reason::TraceTooLong.at(0));
     }
+    show_trace(header, trace, letters, out)
 }

@@ -75,8 +75,8 @@ impl Packed {
     {
         let trace = self.trace();
         match show(trace, &mut output[trace.len()..]) {
-            Shown::Model(_) => true,
-            Shown::Infeasible(_) | Shown::Refused(..) => false,
+            Ok(Shown::Model(_)) => true,
+            Ok(Shown::Infeasible(_)) | Err(_) => false,
         }
     }
 }

@@ -26,8 +26,7 @@ use Rattle.traces.specs.Traces.{AllFit, packing}
 use Rattle.traces.proofs.Theory.TraceLaws.{reading_fits, refused_packing}
 use Rattle.semantics.specs.Models.{Feasible}
 use Rattle.streaming.specs.Demand2.{Demand2}
-use Rattle.model_writer.specs.declared.Shown.{Shown}
-use Rattle.model_writer.specs.Answer.{ModelAnswer, shown_answer, answer_to, output_after, Means, Showed}
+use Rattle.model_writer.specs.Answer.{ShowResult, ModelAnswer, shown_answer, answer_to, output_after, Means, Showed}
 use Rattle.grammar.specs.Grammar.{Macro}
 use Rattle.refusals.specs.Order.{Refusal}
 use Rattle.refusals.specs.Accepted.{Accepted}
@@ -102,7 +101,7 @@ pub refused_trace_is_not_judged : (bytes : List ℕ) (answer : Answer (ℕ × �
 refused_trace_is_not_judged bytes answer met = met.refuses
 
 -- `model_writer::show` ensures `Showed`. A trace that is refused, also for having more than 1,024 letters, is answered so, and the output stays.
-pub refused_trace_has_no_model : (bytes output : List ℕ) (answer : Shown) (output' : List ℕ) → Showed bytes output answer output'
+pub refused_trace_has_no_model : (bytes output : List ℕ) (answer : ShowResult) (output' : List ℕ) → Showed bytes output answer output'
     → (number place : ℕ) → reading_within most_letters first_edition bytes ≡ TraceReading.refused number place
     → (shown_answer answer ≡ ModelAnswer.refusal number place) × (output' ≡ output)
 unfolding answer_to output_after
@@ -110,6 +109,6 @@ refused_trace_has_no_model bytes output answer output' met number place e =
     (met.answer ∙ ap (λ r. answer_to r (length output)) e, met.output ∙ ap (λ r. output_after r output) e)
 
 -- So does it on every refusal of `show`, also that by 6.
-pub refused_model_leaves_output : (bytes output : List ℕ) (answer : Shown) (output' : List ℕ) → Showed bytes output answer output'
+pub refused_model_leaves_output : (bytes output : List ℕ) (answer : ShowResult) (output' : List ℕ) → Showed bytes output answer output'
     → (number place : ℕ) → shown_answer answer ≡ ModelAnswer.refusal number place → output' ≡ output
 refused_model_leaves_output bytes output answer output' met number place e = (subst (λ a. Means bytes output a output') e met.means).1

@@ -1,5 +1,5 @@
 -- The laws of the run: how it starts, goes on and ends.
-use Rattle.std.specs.Prelude.{Option, Some, None}
+use Rattle.std.specs.Prelude.{Option, Some, None, Ok, Err}
 use mathlib.Core.Path.{◌≡◌, refl, sym, ◌∙◌, ap, subst}
 use mathlib.Core.Logic.{◌⊎◌, inl, inr, ◌≢◌}
 use mathlib.Core.Bool.{Bool, true, false}
@@ -35,7 +35,7 @@ use Rattle.closure.proofs.Theory.Entering.{chains_none, complete_none}
 use Rattle.closure.proofs.Theory.Steps.{letter_clash}
 use Rattle.engine.specs.Engine.{Engine, Computed, Ready, LetterPerformed}
 use Rattle.engine.specs.Engine.{Counts}
-use Rattle.engine.specs.declared.EngineOutcome.TheVariants as outcome
+use Rattle.letters.specs.declared.reasons.Reason.TheVariants.{LetterMalformed}
 use Rattle.engine.specs.Run as spec
 use Rattle.engine.proofs.Theory.ReadingLaws.{headed, behind_none, behind_one, rest_starts, rest_ends, rest_bad, rest_good, letter_fits}
 
@@ -53,7 +53,7 @@ module _ (s : List ℕ) (h : Header) (n : ℕ) (r : spec.Begun s h n) where
       (w : spec.Running s h n function first second representative head link value left right registers counts.terms counts.tests counts.parted k)
       (read : Option Letter) (e : letter_answer read ≡ letter_at first_edition h s k) where
     -- the letter is not well formed
-    pub malformed_at : read ≡ None → spec.Ran s h n function first second representative counts.terms (outcome.Malformed (k + 1))
+    pub malformed_at : read ≡ None → spec.Ran s h n function first second representative counts.terms (Err (record { reason = LetterMalformed; place = k + 1 }))
     malformed_at q = spec.malformed (k + 1) (w.rest ∙ ap (spec.behind w.letters) (rest_bad s h n r k b read e q))
 
   module _ (function first second representative head link value left right : List ℕ) (registers : ℕ) (counts : Counts) (k : ℕ) (b : k < n)
@@ -152,7 +152,7 @@ module _ (s : List ℕ) (h : Header) (n : ℕ) (r : spec.Begun s h n) where
           feasible = subst (λ ρ. Feasible (state ρ)) (sym next) (elim clashing [ inl (y, x) ↦ absurd (true_false (sym y ∙ z)) | inr (y, x) ↦ x ]);
         }
 
-        pub stops : c ≡ true → spec.Ran s h n function' first' second' representative' counts'.terms (outcome.Infeasible (k + 1))
+        pub stops : c ≡ true → spec.Ran s h n function' first' second' representative' counts'.terms (Ok (Some (k + 1)))
         stops z = spec.infeasible (k + 1) letters_next rest_next (subst (λ ρ. FailsAt (λ π. Feasible (state π)) ρ (k + 1)) (sym next) fails) (omega arith)
           where
             so_long : k + 1 ≡ suc (size (trace_of h w.letters))
@@ -165,7 +165,7 @@ module _ (s : List ℕ) (h : Header) (n : ℕ) (r : spec.Begun s h n) where
       (e : registers ≡ h.registers)
       (w : spec.Running s h n function first second representative head link value left right registers counts.terms counts.tests counts.parted k)
     where
-      pub ends : spec.Ran s h n function first second representative counts.terms outcome.Feasible
+      pub ends : spec.Ran s h n function first second representative counts.terms (Ok None)
       ends = spec.feasible w.letters
           (w.rest ∙ ap (spec.behind w.letters) (rest_ends s h n r k b) ∙ ap (trace h) (append-nil w.letters))
           (first_infeasible_unique (trace_of h w.letters) w.formed 0 w.feasible)

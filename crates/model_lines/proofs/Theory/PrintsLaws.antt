@@ -28,10 +28,12 @@ use Rattle.text.specs.Templates.{part, filled_in}
 use Rattle.text.specs.Appending.{Appended, PlaceInRange}
 use Rattle.report.specs.Lines.{line, refused_line}
 use Rattle.report.proofs.Theory.Bound.{refused_few}
-use Rattle.model_writer.specs.declared.Shown.{Shown}
-use Rattle.model_writer.specs.declared.Shown.TheVariants.{Model, Infeasible, Refused}
+use Rattle.std.specs.Prelude.{Ok, Err}
+use Rattle.letters.specs.declared.reasons.Refused.{Refused}
+use Rattle.letters.specs.Reasons.{number_of}
+use Rattle.model_writer.specs.declared.Shown.TheVariants.{Model, Infeasible}
 use Rattle.model_writer.specs.Answer as answer
-use Rattle.model_writer.specs.Answer.{shown_answer, model_bytes, answer_to, output_after, Showed}
+use Rattle.model_writer.specs.Answer.{ShowResult, shown_answer, model_bytes, answer_to, output_after, Showed}
 use Rattle.model_writer.proofs.Theory.AnswerLaws.{model_within}
 use Rattle.model_writer.proofs.Theory.Means.{is_trace}
 use Rattle.model_lines.specs.Prints.{octet_text, hex_text, model_word, model_line, infeasible_line, read_line, line_for, line_of, most_model_line_bytes}
@@ -100,34 +102,36 @@ infeasible_few n h = simp length-append (omega (arith, long_number n h))
 pub few_room : {text : List ℕ} → length text ≤ most_model_line_bytes → PlaceInRange 0 text
 few_room h = record { fits = omega (arith, h) }
 
-module _ (entry out exit : List ℕ) (r : Shown) (size : ℕ) where
-  pub wrote_model : (n : ℕ) → r ≡ Model n → ModelWithin r (length out) → Appended entry 0 (model_line (take n out)) exit size → WroteLine entry r out size exit
+module _ (entry out exit : List ℕ) (r : ShowResult) (size : ℕ) where
+  pub wrote_model : (n : ℕ) → r ≡ Ok (Model n) → ModelWithin r (length out) → Appended entry 0 (model_line (take n out)) exit size → WroteLine entry r out size exit
   unfolding line_of
-  wrote_model n e h a = subst (λ (q : Shown). WroteLine entry q out size exit)
+  wrote_model n e h a = subst (λ (q : ShowResult). WroteLine entry q out size exit)
       (sym e) record { few = model_few (take n out) (omega (arith, held.0, held.1, length-take-le n out held.0)); appended = a }
     where
       held : (n ≤ length out) × (length out ≤ most_model)
-      held = subst (λ (q : Shown). ModelWithin q (length out)) e h
+      held = subst (λ (q : ShowResult). ModelWithin q (length out)) e h
 
-  pub wrote_infeasible : (n : ℕ) → r ≡ Infeasible n → n < 2 ^ 64 → Appended entry 0 (infeasible_line n) exit size → WroteLine entry r out size exit
+  pub wrote_infeasible : (n : ℕ) → r ≡ Ok (Infeasible n) → n < 2 ^ 64 → Appended entry 0 (infeasible_line n) exit size → WroteLine entry r out size exit
   unfolding line_of
-  wrote_infeasible n e h a = subst (λ (q : Shown). WroteLine entry q out size exit) (sym e) record { few = infeasible_few n h; appended = a }
+  wrote_infeasible n e h a = subst (λ (q : ShowResult). WroteLine entry q out size exit) (sym e) record { few = infeasible_few n h; appended = a }
 
-  pub wrote_refused : (m n : ℕ) → r ≡ Refused m n → m < 2 ^ 64 → n < 2 ^ 64 → Appended entry 0 (refused_line m n) exit size → WroteLine entry r out size exit
+  pub wrote_refused : (x : Refused) → r ≡ Err x → number_of x.reason < 2 ^ 64 → x.place < 2 ^ 64
+      → Appended entry 0 (refused_line (number_of x.reason) x.place) exit size → WroteLine entry r out size exit
   unfolding line_of
-  wrote_refused m n e h l a = subst (λ (q : Shown). WroteLine entry q out size exit) (sym e) record { few = refused_few (omega arith) m n h l; appended = a }
+  wrote_refused x e h l a = subst (λ (q : ShowResult). WroteLine entry q out size exit) (sym e)
+      record { few = refused_few (omega arith) (number_of x.reason) x.place h l; appended = a }
 
-pub model_held : (r : Shown) (n room : ℕ) → r ≡ Model n → ModelWithin r room → (n ≤ room) × (room ≤ most_model)
-model_held r n room e h = subst (λ (q : Shown). ModelWithin q room) e h
+pub model_held : (r : ShowResult) (n room : ℕ) → r ≡ Ok (Model n) → ModelWithin r room → (n ≤ room) × (room ≤ most_model)
+model_held r n room e h = subst (λ (q : ShowResult). ModelWithin q room) e h
 
 pub model_room : (n : ℕ) (out : List ℕ) → n ≤ length out → length out ≤ most_model → PlaceInRange 0 (model_line (take n out))
 model_room n out h l = few_room (model_few (take n out) (omega (arith, length-take-le n out h)))
 
-pub showed_held : (s entry exit : List ℕ) (r : Shown) → Showed s entry r exit → length exit ≡ length entry → length entry ≤ most_model
+pub showed_held : (s entry exit : List ℕ) (r : ShowResult) → Showed s entry r exit → length exit ≡ length entry → length entry ≤ most_model
     → ModelWithin r (length exit)
-showed_held s entry exit (Model n) x e l = (omega (arith, model_within s entry exit (Model n) n x refl, e), omega (arith, e, l))
-showed_held s entry exit (Infeasible k) x e l = tt
-showed_held s entry exit (Refused number place) x e l = tt
+showed_held s entry exit (Ok (Model n)) x e l = (omega (arith, model_within s entry exit (Ok (Model n)) n x refl, e), omega (arith, e, l))
+showed_held s entry exit (Ok (Infeasible k)) x e l = tt
+showed_held s entry exit (Err q) x e l = tt
 
 -- ── every model fits ──
 module _ (s : List ℕ) (h : Header) (ls : List Letter) (e : reading_within most_letters first_edition s ≡ trace h ls) where
@@ -162,25 +166,25 @@ module _ (s : List ℕ) (h : Header) (ls : List Letter) (e : reading_within most
   model_fits = omega (arith, packed_length first_edition σ.header (tables_of σ), rows_few, starts_few)
 
 -- ── the line of the answer is that of the trace ──
-refused-line : (r : Shown) (a b : ℕ) (out : List ℕ) → shown_answer r ≡ answer.refusal a b → line_of r out ≡ refused_line a b
+refused-line : (r : ShowResult) (a b : ℕ) (out : List ℕ) → shown_answer r ≡ answer.refusal a b → line_of r out ≡ refused_line a b
 unfolding line_of
-refused-line (Model n) a b out e = absurd (let z : ◌≡◌ {A = ℕ} 0 1 = cc in omega arith)
-refused-line (Infeasible k) a b out e = absurd (let z : ◌≡◌ {A = ℕ} 0 1 = cc in omega arith)
-refused-line (Refused number place) a b out e = cc
+refused-line (Ok (Model n)) a b out e = absurd (let z : ◌≡◌ {A = ℕ} 0 1 = cc in omega arith)
+refused-line (Ok (Infeasible k)) a b out e = absurd (let z : ◌≡◌ {A = ℕ} 0 1 = cc in omega arith)
+refused-line (Err q) a b out e = cc
 
-infeasible-line : (r : Shown) (k : ℕ) (out : List ℕ) → shown_answer r ≡ answer.infeasible k → line_of r out ≡ infeasible_line k
+infeasible-line : (r : ShowResult) (k : ℕ) (out : List ℕ) → shown_answer r ≡ answer.infeasible k → line_of r out ≡ infeasible_line k
 unfolding line_of
-infeasible-line (Model n) k out e = absurd (let z : ◌≡◌ {A = ℕ} 0 1 = cc in omega arith)
-infeasible-line (Infeasible j) k out e = cc
-infeasible-line (Refused number place) k out e = absurd (let z : ◌≡◌ {A = ℕ} 0 1 = cc in omega arith)
+infeasible-line (Ok (Model n)) k out e = absurd (let z : ◌≡◌ {A = ℕ} 0 1 = cc in omega arith)
+infeasible-line (Ok (Infeasible j)) k out e = cc
+infeasible-line (Err q) k out e = absurd (let z : ◌≡◌ {A = ℕ} 0 1 = cc in omega arith)
 
-model-line : (r : Shown) (bytes rest out : List ℕ) → shown_answer r ≡ answer.model (length bytes) → out ≡ bytes ++ rest → line_of r out ≡ model_line bytes
+model-line : (r : ShowResult) (bytes rest out : List ℕ) → shown_answer r ≡ answer.model (length bytes) → out ≡ bytes ++ rest → line_of r out ≡ model_line bytes
 unfolding line_of
-model-line (Model n) bytes rest out e f = let l : n ≡ length bytes = cc in ap model_line (ap (take n) f ∙ take_at bytes rest n (sym l))
-model-line (Infeasible j) bytes rest out e f = absurd (let z : ◌≡◌ {A = ℕ} 0 1 = cc in omega arith)
-model-line (Refused number place) bytes rest out e f = absurd (let z : ◌≡◌ {A = ℕ} 0 1 = cc in omega arith)
+model-line (Ok (Model n)) bytes rest out e f = let l : n ≡ length bytes = cc in ap model_line (ap (take n) f ∙ take_at bytes rest n (sym l))
+model-line (Ok (Infeasible j)) bytes rest out e f = absurd (let z : ◌≡◌ {A = ℕ} 0 1 = cc in omega arith)
+model-line (Err q) bytes rest out e f = absurd (let z : ◌≡◌ {A = ℕ} 0 1 = cc in omega arith)
 
-module _ (s entry exit : List ℕ) (r : Shown) (x : Showed s entry r exit) (room : most_model ≡ length entry) where
+module _ (s entry exit : List ℕ) (r : ShowResult) (x : Showed s entry r exit) (room : most_model ≡ length entry) where
   pub answer_line : line_of r exit ≡ line_for s
   unfolding answer_to output_after read_line
   answer_line = go (reading_within most_letters first_edition s) refl x.answer x.output

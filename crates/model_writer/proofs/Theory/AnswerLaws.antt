@@ -22,7 +22,7 @@ use Rattle.letters.proofs.Theory.WordLaws.{first_roomy}
 use Rattle.traces.specs.Reading.{TraceReading, trace, beginning, letter_count, letters_of, reading_where}
 use Rattle.traces.specs.ReadingParts.{reading_within}
 use Rattle.closure.specs.Limits.{most_terms}
-use Rattle.letters.specs.RefusalNumbers.{letter_malformed, output_too_small, trace_too_long}
+use Rattle.letters.specs.RefusalNumbers.{letter_malformed}
 use Rattle.traces.proofs.Theory.TraceLaws.{reading_fits}
 use Rattle.semantics.specs.Terms.{State, Term, con, begin, state, trace_of}
 use Rattle.semantics.specs.Models.{Feasible}
@@ -37,12 +37,10 @@ use Rattle.semantics.proofs.Theory.PackedTablesLaws.{packed_length}
 use Rattle.semantics.specs.FirstLetters.{first_infeasible}
 use Rattle.closure.specs.Numbering.{nth}
 use Rattle.closure.specs.Arrays.{entry_at, Below}
-use Rattle.engine.specs.declared.EngineOutcome.{EngineOutcome}
-use Rattle.engine.specs.declared.EngineOutcome.TheVariants as outcome
+use Rattle.letters.specs.declared.reasons.Reason.TheVariants.{LetterMalformed, OutputTooSmall, TraceTooLong}
 use Rattle.engine.specs.Engine.{Computed}
 use Rattle.engine.specs.Run as run
 use Rattle.engine.proofs.Theory.ReadingLaws.{headed, read_within, read_any}
-use Rattle.model_writer.specs.declared.Shown.{Shown}
 use Rattle.model_writer.specs.declared.Shown.TheVariants as shown
 use Rattle.model_writer.proofs.Theory.Values.{classes_le}
 use Rattle.model_writer.specs.Values.{value_at, Valued}
@@ -52,7 +50,7 @@ use Rattle.model_writer.specs.Listing.{ListedAll}
 use Rattle.model_writer.specs.Inserted.{inserted}
 use Rattle.model_writer.specs.Bytes.{row_for, RowIn, Writable, tables_in, value_range, model_length}
 use Rattle.model_writer.specs.Fitting.{Puttable, Put, too_large, fitting}
-use Rattle.model_writer.specs.Answer.{ModelAnswer, shown_answer, model_bytes, answer_to, output_after, Means, Showed}
+use Rattle.model_writer.specs.Answer.{ShowResult, ModelAnswer, shown_answer, model_bytes, answer_to, output_after, Means, Showed}
 use Rattle.model_writer.specs.Stages.{SomeStateComputed, Modelled, Stopped, well, ill}
 use Rattle.model_writer.proofs.Theory.Means.{showed}
 
@@ -161,13 +159,13 @@ module _ (h : Header) (function first second representative : List ℕ) (n : ℕ
           let b = length-map (take r rows) (row_for values function first second)
           ∙ length-take-le r rows (let a = l.room in let b = rows_few.0 in omega arith) in omega arith)
 
-    too_long : (out : List ℕ) → length out < model_length h r → Modelled h function first second representative n out (shown.Refused output_too_small 0) out
+    too_long : (out : List ℕ) → length out < model_length h r → Modelled h function first second representative n out (Err (record { reason = OutputTooSmall; place = 0 })) out
     unfolding Modelled
     too_long out b σ e x = let q = bytes_long σ e x in let t = lt-leb (length (model_bytes σ)) (length out) (omega arith) in (rw t, rw t)
 
     fits_in : (out out' : List ℕ) → model_length h r ≤ length out
         → out' ≡ inserted 0 (pack_tables first_edition h (tables_in h values function first second rows c r)) out
-        → Modelled h function first second representative n out (shown.Model (model_length h r)) out'
+        → Modelled h function first second representative n out (Ok (shown.Model (model_length h r))) out'
     unfolding Modelled inserted
     fits_in out out' b g σ e x =
         let q = bytes_long σ e x in
@@ -178,23 +176,24 @@ module _ (h : Header) (function first second representative : List ℕ) (n : ℕ
               ∙ ap (λ (m : ℕ). model_bytes σ ++ drop m out) (zero-add (length (model_bytes σ)))),
         )
 
-    pub put_modelled : (out out' : List ℕ) (q : Shown) → Put h values function first second rows c r out q out'
+    pub put_modelled : (out out' : List ℕ) (q : ShowResult) → Put h values function first second rows c r out q out'
         → Modelled h function first second representative n out q out'
     put_modelled out out' q (too_large b) = too_long out b
     put_modelled out out' q (fitting b g) = fits_in out out' b g
 
 -- ---- what the run of a trace gives
 module _ (s : List ℕ) (h : Header) (n : ℕ) (r : run.Begun s h n) (out : List ℕ) where
-  ran_malformed : {function first second representative : List ℕ} {m : ℕ} {o : EngineOutcome} (k : ℕ)
+  ran_malformed : {function first second representative : List ℕ} {m : ℕ} {o : Result (Option ℕ) Refused} (e : Refused)
       → run.Ran s h n function first second representative m o
-      → o ≡ outcome.Malformed k → letters_of first_edition h s ≡ TraceReading.refused letter_malformed k
-  ran_malformed k (run.malformed j e) q = let z : j ≡ k = cc in e ∙ ap (TraceReading.refused letter_malformed) z
-  ran_malformed k (run.infeasible j ls e f p) q = let z : ◌≡◌ {A = ℕ} 0 1 = cc in absurd (omega arith)
-  ran_malformed k (run.feasible ls e i c) q = let z : ◌≡◌ {A = ℕ} 0 1 = cc in absurd (omega arith)
+      → o ≡ Err e → letters_of first_edition h s ≡ TraceReading.refused (number_of e.reason) e.place
+  ran_malformed e (run.malformed j d) q = subst (λ (e : Refused). letters_of first_edition h s ≡ TraceReading.refused (number_of e.reason) e.place)
+      (let z : record { reason = LetterMalformed; place = j } ≡ e = cc in z) d
+  ran_malformed e (run.infeasible j ls d f p) q = let z : ◌≡◌ {A = ℕ} 0 1 = cc in absurd (omega arith)
+  ran_malformed e (run.feasible ls d i c) q = let z : ◌≡◌ {A = ℕ} 0 1 = cc in absurd (omega arith)
 
-  ran_infeasible : {function first second representative : List ℕ} {m : ℕ} {o : EngineOutcome} (k : ℕ)
+  ran_infeasible : {function first second representative : List ℕ} {m : ℕ} {o : Result (Option ℕ) Refused} (k : ℕ)
       → run.Ran s h n function first second representative m o
-      → o ≡ outcome.Infeasible k
+      → o ≡ Ok (Some k)
       → (ls : List Letter) × (letters_of first_edition h s ≡ run.behind ls (run.reading_from s h n k)) × FailsAt (λ π. Feasible (state π)) (trace_of h ls) k
       × (1 ≤ k)
   ran_infeasible k (run.malformed j e) q = let z : ◌≡◌ {A = ℕ} 0 1 = cc in absurd (omega arith)
@@ -207,8 +206,8 @@ module _ (s : List ℕ) (h : Header) (n : ℕ) (r : run.Begun s h n) (out : List
   )
   ran_infeasible k (run.feasible ls e i c) q = let z : ◌≡◌ {A = ℕ} 0 1 = cc in absurd (omega arith)
 
-  ran_feasible : {function first second representative : List ℕ} {m : ℕ} {o : EngineOutcome} → run.Ran s h n function first second representative m o
-      → o ≡ outcome.Feasible
+  ran_feasible : {function first second representative : List ℕ} {m : ℕ} {o : Result (Option ℕ) Refused} → run.Ran s h n function first second representative m o
+      → o ≡ Ok None
       → (ls : List Letter) × (letters_of first_edition h s ≡ trace h ls) × (0 ≡ first_infeasible (trace_of h ls))
       × Computed (state (trace_of h ls)) function first second representative h.registers m
   ran_feasible (run.malformed j e) q = let z : ◌≡◌ {A = ℕ} 0 1 = cc in absurd (omega arith)
@@ -216,14 +215,14 @@ module _ (s : List ℕ) (h : Header) (n : ℕ) (r : run.Begun s h n) (out : List
   ran_feasible (run.feasible ls e i c) q = (ls, e, i, c)
 
   -- the answer to a reading
-  showed_unread : (a b : ℕ) → reading_within most_letters first_edition s ≡ TraceReading.refused a b → Showed s out (shown.Refused a b) out
+  showed_unread : (e : Refused) → reading_within most_letters first_edition s ≡ TraceReading.refused (number_of e.reason) e.place → Showed s out (Err e) out
   unfolding answer_to output_after
-  showed_unread a b x = showed s out (shown.Refused a b) out (rw x) (rw x)
+  showed_unread e x = showed s out (Err e) out (rw x) (rw x)
 
-  pub showed_malformed : {function first second representative : List ℕ} {m : ℕ} {o : EngineOutcome} (k : ℕ)
+  pub showed_malformed : {function first second representative : List ℕ} {m : ℕ} {o : Result (Option ℕ) Refused} (e : Refused)
       → run.Ran s h n function first second representative m o
-      → o ≡ outcome.Malformed k → Showed s out (shown.Refused letter_malformed k) out
-  showed_malformed k d q = showed_unread letter_malformed k (read_within s h n r ∙ ran_malformed k d q)
+      → o ≡ Err e → Showed s out (Err e) out
+  showed_malformed e d q = showed_unread e (read_within s h n r ∙ ran_malformed e d q)
 
   -- a letter that makes the beginning infeasible is the first of the whole trace
   first_of_all : (ls more : List Letter) (k : ℕ) → 1 ≤ k → letters_of first_edition h s ≡ trace h (ls ++ more)
@@ -235,29 +234,29 @@ module _ (s : List ℕ) (h : Header) (n : ℕ) (r : run.Begun s h n) (out : List
       (extend_fails (λ π. Feasible (state π)) (trace_of h ls) more (suc k) f))
 
   showed_first : (ls : List Letter) (k : ℕ) → letters_of first_edition h s ≡ trace h ls → k ≡ first_infeasible (trace_of h ls) → 1 ≤ k
-      → Showed s out (shown.Infeasible k) out
+      → Showed s out (Ok (shown.Infeasible k)) out
   unfolding answer_to output_after
   showed_first ls k e g p =
       let x = read_within s h n r ∙ e in
       let m : first_infeasible (trace_of h ls) ≢ 0 = λ z. omega arith in
       let t = ne_eqb (first_infeasible (trace_of h ls)) 0 m in
-      showed s out (shown.Infeasible k) out (rw (x, t) (ap ModelAnswer.infeasible g)) (rw (x, t))
+      showed s out (Ok (shown.Infeasible k)) out (rw (x, t) (ap ModelAnswer.infeasible g)) (rw (x, t))
 
-  pub showed_stopped : {function first second representative : List ℕ} {m : ℕ} {o : EngineOutcome} (k : ℕ)
+  pub showed_stopped : {function first second representative : List ℕ} {m : ℕ} {o : Result (Option ℕ) Refused} (k : ℕ)
       → run.Ran s h n function first second representative m o
-      → o ≡ outcome.Infeasible k
-      → (a : Shown) → Stopped h (run.reading_from s h n k) k a → Showed s out a out
+      → o ≡ Ok (Some k)
+      → (a : ShowResult) → Stopped h (run.reading_from s h n k) k a → Showed s out a out
   showed_stopped k d q a (well more y) = let (ls, e, f, p) = ran_infeasible k d q in let g = e ∙ ap (run.behind ls) y in
       showed_first (ls ++ more) k g (first_of_all ls more k p g f) p
   showed_stopped k d q a (ill b y) = let (ls, e, f, p) = ran_infeasible k d q in
-      showed_unread letter_malformed b (read_within s h n r ∙ e ∙ ap (run.behind ls) y)
+      showed_unread (record { reason = LetterMalformed; place = b }) (read_within s h n r ∙ e ∙ ap (run.behind ls) y)
 
-  module _ {function first second representative : List ℕ} {m : ℕ} {o : EngineOutcome} (d : run.Ran s h n function first second representative m o)
-      (q : o ≡ outcome.Feasible) where
+  module _ {function first second representative : List ℕ} {m : ℕ} {o : Result (Option ℕ) Refused} (d : run.Ran s h n function first second representative m o)
+      (q : o ≡ Ok None) where
     pub known : SomeStateComputed h function first second representative m
     known = let (ls, e, i, c) = ran_feasible d q in record { state = state (trace_of h ls); header = extend_header (begin h) ls; computed = c }
 
-    pub showed_model : (a : Shown) (out' : List ℕ) → Modelled h function first second representative m out a out' → Showed s out a out'
+    pub showed_model : (a : ShowResult) (out' : List ℕ) → Modelled h function first second representative m out a out' → Showed s out a out'
     unfolding answer_to output_after Modelled
     showed_model a out' f =
         let (ls, e, i, c) = ran_feasible d q in
@@ -266,20 +265,20 @@ module _ (s : List ℕ) (h : Header) (n : ℕ) (r : run.Begun s h n) (out : List
         let (y, z) = f (state (trace_of h ls)) (extend_header (begin h) ls) c in
         showed s out a out' (rw (x, t) y) (rw (x, t) z)
 
-pub stopped_none : (h : Header) (x : TraceReading) (k : ℕ) {b : Option ℕ} → run.RestRead h x b → b ≡ None → Stopped h x k (shown.Infeasible k)
+pub stopped_none : (h : Header) (x : TraceReading) (k : ℕ) {b : Option ℕ} → run.RestRead h x b → b ≡ None → Stopped h x k (Ok (shown.Infeasible k))
 stopped_none h x k (run.all_read ls e) q = well ls e
 stopped_none h x k (run.broken p l e) q = absurd (none-some _ (sym q))
 
 pub stopped_some : (h : Header) (x : TraceReading) (k p : ℕ) {b : Option ℕ} → run.RestRead h x b → b ≡ Some p
-    → Stopped h x k (shown.Refused letter_malformed p)
+    → Stopped h x k (Err (record { reason = LetterMalformed; place = p }))
 stopped_some h x k p (run.all_read ls e) q = absurd (none-some _ q)
 stopped_some h x k p (run.broken r l e) q = let z : r ≡ p = cc in ill p (e ∙ ap (TraceReading.refused letter_malformed) z)
 
 -- ---- what the beginning gives
 module _ (s : List ℕ) (d : Result Header Refused) (e : as_answer d ≡ beginning first_edition s) (out : List ℕ) where
-  pub showed_refused : {r : Refused} → d ≡ Err r → Showed s out (shown.Refused (number_of r.reason) r.place) out
+  pub showed_refused : {r : Refused} → d ≡ Err r → Showed s out (Err r) out
   unfolding answer_to output_after reading_where
-  showed_refused {r} q = let x = sym e ∙ ap as_answer q in showed s out (shown.Refused (number_of r.reason) r.place) out (rw x) (rw x)
+  showed_refused {r} q = let x = sym e ∙ ap as_answer q in showed s out (Err r) out (rw x) (rw x)
 
   module _ {h : Header} (q : d ≡ Ok h) where
     header_is : beginning first_edition s ≡ letters.value h
@@ -288,14 +287,14 @@ module _ (s : List ℕ) (d : Result Header Refused) (e : as_answer d ≡ beginni
     pub bytes_enough : first_edition.bytes ≤ length s
     bytes_enough = (headed s h header_is).enough
 
-    pub showed_long : most_letters < letter_count first_edition s → Showed s out (shown.Refused trace_too_long 0) out
+    pub showed_long : most_letters < letter_count first_edition s → Showed s out (Err (record { reason = TraceTooLong; place = 0 })) out
     unfolding answer_to output_after reading_where
-    showed_long b = let t = lt-ltb most_letters (letter_count first_edition s) b in showed s out (shown.Refused trace_too_long 0) out
+    showed_long b = let t = lt-ltb most_letters (letter_count first_edition s) b in showed s out (Err (record { reason = TraceTooLong; place = 0 })) out
         (rw (header_is, t)) (rw (header_is, t))
 
     pub begun : letter_count first_edition s ≤ most_letters → run.Begun s h (letter_count first_edition s)
     begun b = record { header = header_is; letters = refl; few = b }
 
 -- A model that was written lies in the output.
-pub model_within : (s out out' : List ℕ) (r : Shown) (n : ℕ) → Showed s out r out' → r ≡ shown.Model n → n ≤ length out
+pub model_within : (s out out' : List ℕ) (r : ShowResult) (n : ℕ) → Showed s out r out' → r ≡ Ok (shown.Model n) → n ≤ length out
 model_within s out out' r n w e = (subst (λ r. Means s out (shown_answer r) out') e w.means).fits

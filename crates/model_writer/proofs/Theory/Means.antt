@@ -36,8 +36,7 @@ use Rattle.semantics.specs.PackedTables.{pack_tables}
 use Rattle.semantics.proofs.Theory.PackedTablesLaws.{read_packed}
 use Rattle.semantics.specs.FirstLetters.{first_infeasible}
 use Rattle.semantics.proofs.Theory.JudgementLaws.{first_infeasible_is, failed, feasible_closed}
-use Rattle.model_writer.specs.declared.Shown.{Shown}
-use Rattle.model_writer.specs.Answer.{ModelAnswer, shown_answer, model_bytes, fitted, laid_in, answer_to, output_after}
+use Rattle.model_writer.specs.Answer.{ShowResult, ModelAnswer, shown_answer, model_bytes, fitted, laid_in, answer_to, output_after}
 use Rattle.model_writer.specs.Answer.{IsTrace, ShownFor, ModelIn, LetterNamed, RefusedFor, Means, Showed}
 use Rattle.semantics.proofs.Theory.Tables.{described_by}
 
@@ -151,6 +150,6 @@ module _ (s out : List ℕ) where
   pub answer_means : Means s out (answer_to (reading_within most_letters first_edition s) (length out)) (output_after (reading_within most_letters first_edition s) out)
   answer_means = reading_means (reading_within most_letters first_edition s) refl
 
-  pub showed : (r : Shown) (out' : List ℕ) → shown_answer r ≡ answer_to (reading_within most_letters first_edition s) (length out)
+  pub showed : (r : ShowResult) (out' : List ℕ) → shown_answer r ≡ answer_to (reading_within most_letters first_edition s) (length out)
       → out' ≡ output_after (reading_within most_letters first_edition s) out → Showed s out r out'
   showed r out' e f = record { answer = e; output = f; means = rw (e, f) answer_means }

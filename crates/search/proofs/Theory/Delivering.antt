@@ -30,9 +30,8 @@ use Rattle.semantics.specs.PackedTables.{pack_tables}
 use Rattle.semantics.specs.ShownTables.{tables_of}
 use Rattle.semantics.specs.FirstLetters.{first_infeasible}
 use Rattle.semantics.proofs.Theory.JudgementLaws.{first_infeasible_unique}
-use Rattle.model_writer.specs.Answer.{shown_answer, ModelAnswer, model_bytes, fitted, laid_in, answer_to, output_after, Showed}
+use Rattle.model_writer.specs.Answer.{ShowResult, shown_answer, ModelAnswer, model_bytes, fitted, laid_in, answer_to, output_after, Showed}
 use Rattle.model_writer.specs.Answer as answer
-use Rattle.model_writer.specs.declared.Shown.{Shown}
 use Rattle.verdict_theory.specs.Verdict.{VerdictAnswer, unfit, breaking, failing, Delivered}
 use Rattle.verdict_theory.specs.AnswerPacking.{packed}
 
@@ -85,7 +84,7 @@ module _ (h : Header) (ls : List Letter) (output : List ℕ) (a : VerdictAnswer)
     abbrev out : List ℕ
     out = drop (length (packing first_edition h ls)) output
 
-    module _ (r : Shown) (out' : List ℕ) (w : Showed (packing first_edition h ls) (drop (length (packing first_edition h ls)) output) r out') where
+    module _ (r : ShowResult) (out' : List ℕ) (w : Showed (packing first_edition h ls) (drop (length (packing first_edition h ls)) output) r out') where
       told : shown_answer r ≡ fitted (model_bytes σ) (length out)
       unfolding answer_to
       told = w.answer ∙ ap (λ x. answer_to x (length out)) read_within ∙ rw (eq-eqb (first_infeasible (trace_of h ls)) 0 possible) refl

@@ -1,5 +1,5 @@
 -- What follows from the definitions of specs/MacroSearch.antt.
-use mathlib.Core.Path.{◌≡◌, refl, sym, ap, ◌∙◌, subst}
+use mathlib.Core.Path.{◌≡◌, sym, ap, ◌∙◌, subst}
 use mathlib.Core.Logic.{◌≢◌}
 use mathlib.Core.List.{List, map}
 use Prim.Native.Nat.{ℕ, ◌+◌, ◌-◌, ◌*◌, ◌/◌, ◌^◌, ◌≤◌, ◌<◌}
@@ -12,7 +12,6 @@ use Rattle.letters.specs.Capacity.{capacity_of, most_pairs}
 use Rattle.letters.specs.Letters.{HeaderFits}
 use Rattle.semantics.specs.Terms.{begin, trace_of, state}
 use Rattle.semantics.specs.Facts.{WellFormed}
-use Rattle.letters.specs.MacroRefusalNumbers.{table_too_small}
 use Rattle.grammar.specs.Limits.{most_points}
 use Rattle.semantics.specs.Models.{Feasible}
 use Rattle.macros.specs.Points.{points}
@@ -30,9 +29,8 @@ use Rattle.records.specs.Records.{record_bytes}
 use Rattle.search.specs.declared.Packed.{Packed}
 use Rattle.std.specs.Prelude.{Result, Ok, Err}
 use Rattle.exploration.specs.declared.Stop.{Stop}
-use Rattle.exploration.specs.declared.Stop.TheVariants.{Full, Breaking, Failing}
+use Rattle.exploration.specs.declared.Stop.TheVariants.{Breaking, Failing}
 use Rattle.search.specs.declared.Verdict as answer
-use Rattle.search.specs.declared.Verdict.TheVariants.{Pass, Refused}
 use Rattle.exploration.specs.LetterBounds.{AllWithin}
 use Rattle.exploration.specs.Exploring.{search_of}
 use Rattle.exploration.proofs.Theory.HeldPoints.{all_within}
