@@ -99,6 +99,21 @@ pub struct Functions {
     pub arities: [u8; MOST_FUNCTIONS],
 }
 
+// A text, and what is declared in it.
+#[derive(Clone, Copy)]
+struct Declared<'a> {
+    text: &'a [u8],
+    registers: Registers,
+    // the functions, with the tests behind them
+    functions: Functions,
+    // the number of the first test
+    first_test: usize,
+    ghost registers_padded: { RegistersPadded registers },
+    ghost functions_padded: { FunctionsPadded functions },
+    ghost counted: { first_test ≤ functions.count },
+    ghost room: { RoomForHidden registers functions first_test },
+}
+
 // Whether no register of this name can be declared any more.
 fn is_register_taken(names: [u64; MOST_REGISTERS], count: usize, k: u64) -> bool
     requires { NamesPadded most_registers names count }
@@ -289,18 +304,6 @@ fn hidden_count(first_test: usize, count: usize) -> usize
     0
 }
 
-fn header_of(rs: Registers, fs: Functions, first_test: usize) -> Header
-    requires { RegistersPadded rs × FunctionsPadded fs × RoomForHidden rs fs first_test }
-    ensures { result ≡ headed rs fs first_test }
-{
-    let hidden = hidden_count(first_test, fs.count);
-    Header {
-        registers: (rs.count + hidden) as u8,
-        functions: fs.count as u8,
-        binary: binary_of(fs.arities),
-    }
-}
-
 // The names of the registers as they are declared, and the hidden ones behind them.
 fn register_spellings(
     text: &[u8],
@@ -366,57 +369,61 @@ fn function_spellings(
     test_spellings(text, names, tests, first_test, count)
 }
 
-// The end of the text, the count of points, and the macro.
-fn finish(
-    text: &[u8],
-    rs: Registers,
-    fs: Functions,
-    first_test: usize,
-    at: usize,
-    mut points: Points,
-) -> Result<CompiledMacro, Refused>
-    requires { RegistersPadded rs × FunctionsPadded fs × (first_test ≤ fs.count) × RoomForHidden rs fs first_test }
-    ensures { Finishes text.now rs fs first_test (progress at points) result }
-{
-    let t = tokens::next(text, at);
-    if t.key != tokens::END {
-        return Err(phrases::unfitting(t));
+impl Declared<'_> {
+    // The counts, and the functions of two arguments.
+    fn header(&self) -> Header
+        ensures { result ≡ headed self.now.registers self.now.functions self.now.first_test }
+    {
+        let hidden = hidden_count(self.first_test, self.functions.count);
+        Header {
+            registers: (self.registers.count + hidden) as u8,
+            functions: self.functions.count as u8,
+            binary: binary_of(self.functions.arities),
+        }
     }
-    let count = points.count;
-    if blocks::MOST_POINTS < count {
-        return Err(Reason::PointsTooMany.at(0));
-    }
-    points.redirect(0, count, count);
-    Ok(CompiledMacro {
-        header: header_of(rs, fs, first_test),
-        registers: register_spellings(text, rs.count, first_test, fs.count),
-        functions: function_spellings(text, rs.count, first_test, fs.count),
-        points: points.entries,
-        count,
-    })
-}
 
-// Behind the declarations.
-fn read_body(
-    text: &[u8],
-    rs: Registers,
-    fs: Functions,
-    first_test: usize,
-) -> Result<CompiledMacro, Refused>
-    requires { RegistersPadded rs × FunctionsPadded fs × (first_test ≤ fs.count) × RoomForHidden rs fs first_test }
-    ensures { result ≡ held_answer
-        (body_from text.now (take rs.count rs.names) (take fs.count fs.names) (take fs.count fs.arities) first_test fs.at) }
-{
-    let scope = Scope {
-        text,
-        registers: &rs.names[..rs.count],
-        functions: &fs.names[..fs.count],
-        arities: &fs.arities[..fs.count],
-        first_test: first_test as u8,
-    };
-    let mut points = Points::none();
-    let at = blocks::block(&scope, fs.at, DEEPEST_NESTING, &mut points)?;
-    finish(text, rs, fs, first_test, at, points)
+    // The end of the text, the count of points, and the macro.
+    fn finish(&self, at: usize, mut points: Points) -> Result<CompiledMacro, Refused>
+        ensures { Finishes self.now.text.now self.now.registers self.now.functions self.now.first_test (progress at points) result }
+    {
+        let t = tokens::next(self.text, at);
+        if t.key != tokens::END {
+            return Err(phrases::unfitting(t));
+        }
+        let count = points.count;
+        if blocks::MOST_POINTS < count {
+            return Err(Reason::PointsTooMany.at(0));
+        }
+        points.redirect(0, count, count);
+        let registers = self.registers.count;
+        let functions = self.functions.count;
+        Ok(CompiledMacro {
+            header: self.header(),
+            registers: register_spellings(self.text, registers, self.first_test, functions),
+            functions: function_spellings(self.text, registers, self.first_test, functions),
+            points: points.entries,
+            count,
+        })
+    }
+
+    // Behind the declarations.
+    fn read_body(&self) -> Result<CompiledMacro, Refused>
+        ensures { result ≡ held_answer
+            (body_from self.now.text.now (take self.now.registers.count self.now.registers.names)
+            (take self.now.functions.count self.now.functions.names) (take self.now.functions.count self.now.functions.arities)
+            self.now.first_test self.now.functions.at) }
+    {
+        let scope = Scope {
+            text: self.text,
+            registers: &self.registers.names[..self.registers.count],
+            functions: &self.functions.names[..self.functions.count],
+            arities: &self.functions.arities[..self.functions.count],
+            first_test: self.first_test as u8,
+        };
+        let mut points = Points::none();
+        let at = blocks::block(&scope, self.functions.at, DEEPEST_NESTING, &mut points)?;
+        self.finish(at, points)
+    }
 }
 
 // Behind the functions.
@@ -426,7 +433,13 @@ fn read_tests(text: &[u8], rs: Registers, fs: Functions) -> Result<CompiledMacro
         (tests_from text.now (take rs.count rs.names) (take fs.count fs.names) (take fs.count fs.arities) fs.at) }
 {
     let all = tests_line(text, &rs.names[..rs.count], fs)?;
-    read_body(text, rs, all, fs.count)
+    let declared = Declared {
+        text,
+        registers: rs,
+        functions: all,
+        first_test: fs.count,
+    };
+    declared.read_body()
 }
 
 // Behind the registers.

@@ -106,7 +106,7 @@ pub record NameOfRegister (s : List ℕ) (from : ℕ) (names : List ℕ) (count 
 module _ {s : List ℕ} {from : ℕ} {names : List ℕ} {count at : ℕ} (S : RegistersSoFar s from names count at) {t : Token} (e : t ≡ token_at s at) where
   pub registers_last : {b : Bool} → b ≡ is_name t.key → b ≡ false → {r : Result Registers Refused}
       → r ≡ read_as held_registers (listed_t s (length (take count names)) (take count names) t) → r ≡ read_as held_registers (register_names s
-          most_registers [] from)
+      most_registers [] from)
   unfolding register_names
   registers_last i h g = g ∙ ap (read_as held_registers) (sym (S.left ∙ go (most_registers - count)))
     where

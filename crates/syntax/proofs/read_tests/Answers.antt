@@ -6,11 +6,11 @@ returns-in_err-all c =
     let a = c.args in
     law.tests_refused a.text.now a.rs a.fs c.requires.0 c.requires.1 c.tests_line.ensures c.in_err-all.was c.from_residual.ensures
 
-pub read_body-requires : goal.read_body-requires
-read_body-requires c =
+pub invariant_of-declared : goal.invariant_of-declared
+invariant_of-declared c =
     let a = c.args in
     let (F, l, room) = law.tests_kept a.text.now a.rs a.fs c.requires.0 c.requires.1 c.tests_line.ensures c.in_ok-all.was in
-    (c.requires.0, F, l, room)
+    record { registers_padded = c.requires.0; functions_padded = F; counted = l; room = room }
 
 pub returns : goal.returns
 returns c =
