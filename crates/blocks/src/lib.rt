@@ -102,6 +102,7 @@ pub fn block(
 {
     let first = points.count;
     let mut at = from;
+    // a `loop`, since where the next statement begins is known only behind this one
     loop {
         let t = tokens::next(scope.text, at);
         if t.key == tokens::RBRACE || t.key == tokens::END {

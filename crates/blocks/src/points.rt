@@ -10,6 +10,7 @@ use phrases::Condition;
 const TOO_MANY: u16 = MOST_POINTS + 1;
 
 /// A table of points, and how many of them were read.
+// An array with a count, since memory is fixed.
 #[derive(Clone, Copy)]
 pub struct Points {
     /// The points; behind them stands what stood there before.
@@ -72,6 +73,7 @@ impl Points {
         ensures entries { self.new.entries ≡ each (within from to f) self.old.entries }
         ensures count { self.new.count ≡ self.old.count }
     {
+        // by index, since a range of the array would ask that `from` is at most `to`, which no caller was asked
         for i in from as usize..to as usize {
             self.entries[i] = self.entries[i].redirected(f);
         }

@@ -65,6 +65,8 @@ pub struct CompiledMacro {
 }
 
 /// What reading a text gives.
+// Numbers beside the macro, and no Result, for what may not change: the theorems on any answer of the reader (`reads_once`, `macros_have_executions`,
+// `macros_have_the_executions_of_definition_2`) speak of these fields, and `fadzgime_read` hands the numbers to C.
 #[derive(Clone, Copy)]
 pub struct MacroRead {
     /// The number of the refusal; 0 if there is none.
@@ -76,6 +78,7 @@ pub struct MacroRead {
 }
 
 /// The registers that were read.
+// Here and in `Functions` arrays with a count stand, since memory is fixed.
 #[derive(Clone, Copy)]
 pub struct Registers {
     /// The place of the next byte.
@@ -144,6 +147,7 @@ fn read_registers(text: &[u8], from: usize) -> Result<Registers, Refused>
     let mut names = [0u64; MOST_REGISTERS];
     let mut count: usize = 0;
     let mut at = from;
+    // a `loop`, since where the next token begins is known only behind this one, and the last one ends the line
     loop {
         let t = tokens::next(text, at);
         if !tokens::is_name(t.key) {
@@ -214,6 +218,7 @@ fn read_line(text: &[u8], regs: &[u64], known: Functions, from: usize) -> Result
     let mut arities = known.arities;
     let mut count: usize = known.count;
     let mut at = from;
+    // a `loop`, as for registers
     loop {
         let t = tokens::next(text, at);
         if !tokens::is_name(t.key) {

@@ -30,11 +30,11 @@ block-returns-then-t-eq-RBRACE t c =
     elim c.then-t-eq-RBRACE.branch [
       | block-then-t-eq-RBRACE-via-then-t-eq-RBRACE w ↦
           law.block_brace a.text.now a.registers.now a.functions.now a.arities.now a.first_test c.args.depth p.count st cur c.loop-t.invariant
-              c.next-t.result c.next-t.ensures st p.counted begun
+          c.next-t.result c.next-t.ensures st p.counted begun
           w.if-t-eq-RBRACE.true
       | block-then-t-eq-RBRACE-via-else-t-eq-RBRACE+then-t-eq-END w ↦
           law.block_end a.text.now a.registers.now a.functions.now a.arities.now a.first_test c.args.depth p.count st cur c.loop-t.invariant
-              c.next-t.result c.next-t.ensures st p.counted begun
+          c.next-t.result c.next-t.ensures st p.counted begun
           w.if-t-eq-END.true
     ]
 
@@ -47,7 +47,7 @@ block-returns-in_err-at t c =
     let one = c.statement.new.points in
     law.leaves _ (BlockRead a.text.now a.registers.now a.functions.now a.arities.now a.first_test c.args.depth st) one c.in_err-at.was c.from_residual.ensures
     (law.block_refused a.text.now a.registers.now a.functions.now a.arities.now a.first_test c.args.depth p.count st cur c.loop-t.invariant
-        c.next-t.result c.next-t.ensures
+    c.next-t.result c.next-t.ensures
     (outcome c.statement.result one) c.statement.ensures c.if-t-eq-RBRACE.false c.if-t-eq-END.false st
     (fine_moved p c.args.from c.args.from) (law.ill one c.in_err-at.was))
 
@@ -59,7 +59,7 @@ block-loop-t-smaller t c =
     let cur = progress c.loop-t.at c.loop-t.points in
     let one = c.statement.new.points in
     (law.reached_turn a.text.now a.registers.now a.functions.now a.arities.now a.first_test c.args.depth p.count st cur c.loop-t.invariant
-        c.next-t.result c.next-t.ensures
+    c.next-t.result c.next-t.ensures
     (progress c.in_ok-at.at one)
     (law.arrives (StatementRead a.text.now a.registers.now a.functions.now a.arities.now a.first_test c.args.depth cur) one c.in_ok-at.was c.statement.ensures)
     c.if-t-eq-RBRACE.false c.if-t-eq-END.false refl (progress c.in_ok-at.at c.join.new.self)
@@ -73,7 +73,7 @@ block-loop-t-preserved t c =
     let cur = progress c.loop-t.at c.loop-t.points in
     let one = c.statement.new.points in
     (law.reached_turn a.text.now a.registers.now a.functions.now a.arities.now a.first_test c.args.depth p.count st cur c.loop-t.invariant
-        c.next-t.result c.next-t.ensures
+    c.next-t.result c.next-t.ensures
     (progress c.in_ok-at.at one)
     (law.arrives (StatementRead a.text.now a.registers.now a.functions.now a.arities.now a.first_test c.args.depth cur) one c.in_ok-at.was c.statement.ensures)
     c.if-t-eq-RBRACE.false c.if-t-eq-END.false refl (progress c.in_ok-at.at c.join.new.self)
@@ -91,7 +91,7 @@ braces-returns-then-depth-eq0 t c =
     let p = c.args.points.now in
     let st = progress c.args.at p in
     law.braces_deep a.text.now a.registers.now a.functions.now a.arities.now a.first_test c.args.depth st c.next-t.result c.next-t.ensures _ p
-        c.if-t-eq-LBRACE.true c.if-depth-eq0.true c.at.ensures
+    c.if-t-eq-LBRACE.true c.if-depth-eq0.true c.at.ensures
 
 pub braces-returns-in_err-e : goal.braces-returns-in_err-e
 braces-returns-in_err-e t c =
@@ -101,7 +101,7 @@ braces-returns-in_err-e t c =
     let q = c.block.new.points in
     law.leaves _ (BracesRead a.text.now a.registers.now a.functions.now a.arities.now a.first_test c.args.depth st) q c.in_err-e.was c.from_residual.ensures
     (law.braces_refused a.text.now a.registers.now a.functions.now a.arities.now a.first_test c.args.depth st c.next-t.result c.next-t.ensures
-        c.if-t-eq-LBRACE.true c.if-depth-eq0.false p.counted
+    c.if-t-eq-LBRACE.true c.if-depth-eq0.false p.counted
     (progress c.next-t.result.end p) (outcome c.block.result q) (fine_moved p c.args.at c.next-t.result.end) c.block.ensures (law.ill q c.in_err-e.was))
 
 pub braces-returns-then-t-eq-LBRACE : goal.braces-returns-then-t-eq-LBRACE
@@ -111,7 +111,7 @@ braces-returns-then-t-eq-LBRACE t c =
     let st = progress c.args.at p in
     let q = c.block.new.points in
     law.braces_read a.text.now a.registers.now a.functions.now a.arities.now a.first_test c.args.depth st c.next-t.result c.next-t.ensures
-        c.if-t-eq-LBRACE.true c.if-depth-eq0.false p.counted
+    c.if-t-eq-LBRACE.true c.if-depth-eq0.false p.counted
     (progress c.next-t.result.end p) (outcome c.block.result q) (fine_moved p c.args.at c.next-t.result.end) c.block.ensures
     c.in_ok-e.e q (law.well q c.in_ok-e.was) _ c.expect.ensures
 
@@ -121,7 +121,7 @@ braces-returns t c =
     let p = c.args.points.now in
     let st = progress c.args.at p in
     law.braces_unfit a.text.now a.registers.now a.functions.now a.arities.now a.first_test c.args.depth st c.next-t.result c.next-t.ensures _ p
-        c.if-t-eq-LBRACE.false c.unfitting.ensures
+    c.if-t-eq-LBRACE.false c.unfitting.ensures
 
 -- ── if ──
 pub conditional-returns-in_err-condition : goal.conditional-returns-in_err-condition
@@ -134,7 +134,7 @@ conditional-returns-in_err-condition t c =
     (law.refused_outcome (λ x e. (held_condition (length a.registers.now) x, e)) (condition_code Fork (length a.registers.now))
     (condition a.text.now a.registers.now a.functions.now a.arities.now a.first_test c.args.at) st p c.from_residual.result
     (condition_answers a.text.now a.registers.now a.functions.now a.arities.now a.first_test c.args.at) c.condition.ensures c.in_err-condition.was
-        c.from_residual.ensures)
+    c.from_residual.ensures)
     c.args.depth (law.exit_ill c.from_residual.result p c.in_err-condition.was c.from_residual.ensures)
 
 pub conditional-overflow_sub-test : goal.conditional-overflow_sub-test
@@ -144,7 +144,7 @@ conditional-overflow_sub-test t c =
     let st = progress c.args.at p in
     let q = progress c.in_ok-condition.a c.pose.new.self in
     let tested = law.posed_outcome (length a.registers.now) Fork (condition a.text.now a.registers.now a.functions.now a.arities.now a.first_test
-        c.args.at) c.args.at p c.pose.new.self
+    c.args.at) c.args.at p c.pose.new.self
     c.condition.ensures c.in_ok-condition.was c.pose.ensures in
     let (x, y, z, u) = law.condition_at a.text.now a.registers.now a.functions.now a.arities.now a.first_test st q tested refl in
     omega arith
@@ -156,7 +156,7 @@ conditional-braces-requires t c =
     let st = progress c.args.at p in
     let q = progress c.in_ok-condition.a c.pose.new.self in
     let tested = law.posed_outcome (length a.registers.now) Fork (condition a.text.now a.registers.now a.functions.now a.arities.now a.first_test
-        c.args.at) c.args.at p c.pose.new.self
+    c.args.at) c.args.at p c.pose.new.self
     c.condition.ensures c.in_ok-condition.was c.pose.ensures in
     let (x, y, z, u) = law.condition_at a.text.now a.registers.now a.functions.now a.arities.now a.first_test st q tested refl in
     (omega (arith, c.decreases), tt)
@@ -168,13 +168,13 @@ conditional-returns-in_err-b t c =
     let st = progress c.args.at p in
     let q = progress c.in_ok-condition.a c.pose.new.self in
     let tested = law.posed_outcome (length a.registers.now) Fork (condition a.text.now a.registers.now a.functions.now a.arities.now a.first_test
-        c.args.at) c.args.at p c.pose.new.self
+    c.args.at) c.args.at p c.pose.new.self
     c.condition.ensures c.in_ok-condition.was c.pose.ensures in
     let ys = c.braces.new.points in
     law.leaves _ (ConditionalRead a.text.now a.registers.now a.functions.now a.arities.now a.first_test c.args.depth st) ys c.in_err-b.was
-        c.from_residual-in_err-b.ensures
+    c.from_residual-in_err-b.ensures
     (law.conditional_braces a.text.now a.registers.now a.functions.now a.arities.now a.first_test st q tested c.args.depth refl (outcome
-        c.braces.result ys) c.braces.ensures (law.ill ys c.in_err-b.was))
+    c.braces.result ys) c.braces.ensures (law.ill ys c.in_err-b.was))
 
 pub conditional-otherwise-requires : goal.conditional-otherwise-requires
 conditional-otherwise-requires t c =
@@ -183,11 +183,11 @@ conditional-otherwise-requires t c =
     let st = progress c.args.at p in
     let q = progress c.in_ok-condition.a c.pose.new.self in
     let tested = law.posed_outcome (length a.registers.now) Fork (condition a.text.now a.registers.now a.functions.now a.arities.now a.first_test
-        c.args.at) c.args.at p c.pose.new.self
+    c.args.at) c.args.at p c.pose.new.self
     c.condition.ensures c.in_ok-condition.was c.pose.ensures in
     let y = progress c.in_ok-b.b c.braces.new.points in
     let B = law.arrives (BracesRead a.text.now a.registers.now a.functions.now a.arities.now a.first_test c.args.depth q) c.braces.new.points
-        c.in_ok-b.was c.braces.ensures in
+    c.in_ok-b.was c.braces.ensures in
     let (x, y', z, u) = law.condition_at a.text.now a.registers.now a.functions.now a.arities.now a.first_test st q tested refl in
     let (v, w) = law.braces-at a.text.now a.registers.now a.functions.now a.arities.now a.first_test c.args.depth q y B refl in
     (omega (arith, c.decreases), tt)
@@ -199,16 +199,16 @@ conditional-returns-in_err-e t c =
     let st = progress c.args.at p in
     let q = progress c.in_ok-condition.a c.pose.new.self in
     let tested = law.posed_outcome (length a.registers.now) Fork (condition a.text.now a.registers.now a.functions.now a.arities.now a.first_test
-        c.args.at) c.args.at p c.pose.new.self
+    c.args.at) c.args.at p c.pose.new.self
     c.condition.ensures c.in_ok-condition.was c.pose.ensures in
     let y = progress c.in_ok-b.b c.braces.new.points in
     let B = law.arrives (BracesRead a.text.now a.registers.now a.functions.now a.arities.now a.first_test c.args.depth q) c.braces.new.points
-        c.in_ok-b.was c.braces.ensures in
+    c.in_ok-b.was c.braces.ensures in
     let zs = c.otherwise.new.points in
     law.leaves _ (ConditionalRead a.text.now a.registers.now a.functions.now a.arities.now a.first_test c.args.depth st) zs c.in_err-e.was
-        c.from_residual-in_err-e.ensures
+    c.from_residual-in_err-e.ensures
     (law.conditional_else a.text.now a.registers.now a.functions.now a.arities.now a.first_test st q tested c.args.depth refl y B refl (outcome
-        c.otherwise.result zs) c.otherwise.ensures (law.ill zs c.in_err-e.was))
+    c.otherwise.result zs) c.otherwise.ensures (law.ill zs c.in_err-e.was))
 
 pub conditional-returns : goal.conditional-returns
 conditional-returns t c =
@@ -217,11 +217,11 @@ conditional-returns t c =
     let st = progress c.args.at p in
     let q = progress c.in_ok-condition.a c.pose.new.self in
     let tested = law.posed_outcome (length a.registers.now) Fork (condition a.text.now a.registers.now a.functions.now a.arities.now a.first_test
-        c.args.at) c.args.at p c.pose.new.self
+    c.args.at) c.args.at p c.pose.new.self
     c.condition.ensures c.in_ok-condition.was c.pose.ensures in
     let y = progress c.in_ok-b.b c.braces.new.points in
     let B = law.arrives (BracesRead a.text.now a.registers.now a.functions.now a.arities.now a.first_test c.args.depth q) c.braces.new.points
-        c.in_ok-b.was c.braces.ensures in
+    c.in_ok-b.was c.braces.ensures in
     let zs = c.otherwise.new.points in
     law.conditional_read a.text.now a.registers.now a.functions.now a.arities.now a.first_test st q tested c.args.depth refl y B refl (progress c.in_ok-e.e zs)
     (law.arrives (ElseRead a.text.now a.registers.now a.functions.now a.arities.now a.first_test c.args.depth y) zs c.in_ok-e.was c.otherwise.ensures) refl
@@ -239,7 +239,7 @@ repeat-returns-in_err-condition t c =
     (law.refused_outcome (λ x e. (held_condition (length a.registers.now) x, e)) (condition_code Fork (length a.registers.now))
     (condition a.text.now a.registers.now a.functions.now a.arities.now a.first_test c.args.at) st p c.from_residual.result
     (condition_answers a.text.now a.registers.now a.functions.now a.arities.now a.first_test c.args.at) c.condition.ensures c.in_err-condition.was
-        c.from_residual.ensures)
+    c.from_residual.ensures)
     c.args.depth (law.exit_ill c.from_residual.result p c.in_err-condition.was c.from_residual.ensures)
 
 pub repeat-overflow_sub-test : goal.repeat-overflow_sub-test
@@ -249,7 +249,7 @@ repeat-overflow_sub-test t c =
     let st = progress c.args.at p in
     let q = progress c.in_ok-condition.a c.pose.new.self in
     let tested = law.posed_outcome (length a.registers.now) Fork (condition a.text.now a.registers.now a.functions.now a.arities.now a.first_test
-        c.args.at) c.args.at p c.pose.new.self
+    c.args.at) c.args.at p c.pose.new.self
     c.condition.ensures c.in_ok-condition.was c.pose.ensures in
     let (x, y, z, u) = law.condition_at a.text.now a.registers.now a.functions.now a.arities.now a.first_test st q tested refl in
     omega arith
@@ -261,7 +261,7 @@ repeat-braces-requires t c =
     let st = progress c.args.at p in
     let q = progress c.in_ok-condition.a c.pose.new.self in
     let tested = law.posed_outcome (length a.registers.now) Fork (condition a.text.now a.registers.now a.functions.now a.arities.now a.first_test
-        c.args.at) c.args.at p c.pose.new.self
+    c.args.at) c.args.at p c.pose.new.self
     c.condition.ensures c.in_ok-condition.was c.pose.ensures in
     let (x, y, z, u) = law.condition_at a.text.now a.registers.now a.functions.now a.arities.now a.first_test st q tested refl in
     (omega (arith, c.decreases), tt)
@@ -273,13 +273,13 @@ repeat-returns-in_err-e t c =
     let st = progress c.args.at p in
     let q = progress c.in_ok-condition.a c.pose.new.self in
     let tested = law.posed_outcome (length a.registers.now) Fork (condition a.text.now a.registers.now a.functions.now a.arities.now a.first_test
-        c.args.at) c.args.at p c.pose.new.self
+    c.args.at) c.args.at p c.pose.new.self
     c.condition.ensures c.in_ok-condition.was c.pose.ensures in
     let ys = c.braces.new.points in
     law.leaves _ (RepeatRead a.text.now a.registers.now a.functions.now a.arities.now a.first_test c.args.depth st) ys c.in_err-e.was
-        c.from_residual-in_err-e.ensures
+    c.from_residual-in_err-e.ensures
     (law.repeat_braces a.text.now a.registers.now a.functions.now a.arities.now a.first_test st q tested c.args.depth refl (outcome c.braces.result
-        ys) c.braces.ensures (law.ill ys c.in_err-e.was))
+    ys) c.braces.ensures (law.ill ys c.in_err-e.was))
 
 pub repeat-returns : goal.repeat-returns
 repeat-returns t c =
@@ -288,11 +288,11 @@ repeat-returns t c =
     let st = progress c.args.at p in
     let q = progress c.in_ok-condition.a c.pose.new.self in
     let tested = law.posed_outcome (length a.registers.now) Fork (condition a.text.now a.registers.now a.functions.now a.arities.now a.first_test
-        c.args.at) c.args.at p c.pose.new.self
+    c.args.at) c.args.at p c.pose.new.self
     c.condition.ensures c.in_ok-condition.was c.pose.ensures in
     let y = progress c.in_ok-e.e c.braces.new.points in
     let B = law.arrives (BracesRead a.text.now a.registers.now a.functions.now a.arities.now a.first_test c.args.depth q) c.braces.new.points
-        c.in_ok-e.was c.braces.ensures in
+    c.in_ok-e.was c.braces.ensures in
     law.repeat_read a.text.now a.registers.now a.functions.now a.arities.now a.first_test st q tested c.args.depth refl y B refl
     (progress c.in_ok-e.e c.repeat_from.new.self)
     (points_looped c.in_ok-e.e c.braces.new.points c.repeat_from.new.self c.repeat_from.ensures.count _ _ c.repeat_from.ensures.entries)
@@ -309,7 +309,7 @@ otherwise-returns-then-t-eq-ELSE t c =
     let p = c.args.points.now in
     let st = progress c.args.at p in
     law.else_present a.text.now a.registers.now a.functions.now a.arities.now a.first_test c.args.depth st c.next-t.result c.next-t.ensures (progress
-        c.next-t.result.end p)
+    c.next-t.result.end p)
     (outcome c.braces.result c.braces.new.points) c.if-t-eq-ELSE.true p.counted (fine_moved p c.args.at c.next-t.result.end) c.braces.ensures
 
 pub otherwise-returns : goal.otherwise-returns
@@ -318,7 +318,7 @@ otherwise-returns t c =
     let p = c.args.points.now in
     let st = progress c.args.at p in
     law.else_absent a.text.now a.registers.now a.functions.now a.arities.now a.first_test c.args.depth st c.next-t.result c.next-t.ensures st
-        c.if-t-eq-ELSE.false (fine_moved p c.args.at c.args.at)
+    c.if-t-eq-ELSE.false (fine_moved p c.args.at c.args.at)
 
 -- ── a statement ──
 pub statement-conditional-requires : goal.statement-conditional-requires
@@ -332,7 +332,7 @@ statement-returns-then-t-eq-IF t c =
     let p = c.args.points.now in
     let st = progress c.args.at p in
     law.statement_if a.text.now a.registers.now a.functions.now a.arities.now a.first_test c.args.depth st c.next-t.result c.next-t.ensures p.counted
-        (progress c.next-t.result.end p)
+    (progress c.next-t.result.end p)
     (outcome c.conditional.result c.conditional.new.points) (fine_moved p c.args.at c.next-t.result.end) c.if-t-eq-IF.true c.conditional.ensures
 
 pub statement-repeat-requires : goal.statement-repeat-requires
@@ -346,5 +346,5 @@ statement-returns-then-t-eq-WHILE t c =
     let p = c.args.points.now in
     let st = progress c.args.at p in
     law.statement_while a.text.now a.registers.now a.functions.now a.arities.now a.first_test c.args.depth st c.next-t.result c.next-t.ensures
-        p.counted (progress c.next-t.result.end p)
+    p.counted (progress c.next-t.result.end p)
     (outcome c.repeat.result c.repeat.new.points) (fine_moved p c.args.at c.next-t.result.end) c.if-t-eq-WHILE.true c.repeat.ensures

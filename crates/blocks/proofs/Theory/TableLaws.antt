@@ -73,7 +73,7 @@ unfolding each_from
 each-from {A = A} g d xs =
     let n : length (each g xs) ≡ length xs = sym (ap length (each_all g (length xs) xs (omega arith))) ∙ each_length g (length xs) xs in
     ext_get_or d (each g xs) (each_from g 0 xs) (n ∙ sym (from_length 0 xs)) λ k h. each_at g k xs d (omega arith) ∙ ap (λ i. g i (get_or xs k d))
-        (sym (zero-add k))
+    (sym (zero-add k))
     ∙ sym (from_at 0 k xs (omega arith))
   where
     from_length : (i : ℕ) (xs : List A) → length (each_from g i xs) ≡ length xs

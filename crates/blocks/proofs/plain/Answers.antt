@@ -26,7 +26,7 @@ returns-in_err-condition c =
     (law.refused_outcome (λ x e. (held_condition (length a.registers.now) x, e)) (condition_code Step (length a.registers.now))
     (ended_condition a.text.now a.registers.now a.functions.now a.arities.now a.first_test c.args.t.end) st p _
     (tested_answers a.text.now a.registers.now a.functions.now a.arities.now a.first_test c.args.t.end) c.tested.ensures c.in_err-condition.was
-        c.from_residual.ensures)
+    c.from_residual.ensures)
 
 pub returns-then-k-eq-ASSUME : goal.returns-then-k-eq-ASSUME
 returns-then-k-eq-ASSUME c =
@@ -34,9 +34,9 @@ returns-then-k-eq-ASSUME c =
     let p = c.args.points.now in
     let st = progress c.args.at p in
     law.plain_assume a.text.now a.registers.now a.functions.now a.arities.now a.first_test c.args.t st (progress c.in_ok-condition.e c.pose.new.self)
-        c.if-k-eq-ASSUME.true
+    c.if-k-eq-ASSUME.true
     (law.posed_outcome (length a.registers.now) Step (ended_condition a.text.now a.registers.now a.functions.now a.arities.now a.first_test
-        c.args.t.end) c.args.at p c.pose.new.self
+    c.args.t.end) c.args.at p c.pose.new.self
     c.tested.ensures c.in_ok-condition.was c.pose.ensures)
 
 pub returns-in_err-condition-2 : goal.returns-in_err-condition-2
@@ -48,7 +48,7 @@ returns-in_err-condition-2 c =
     (law.refused_outcome (λ x e. (held_condition (length a.registers.now) x, e)) (condition_code Check (length a.registers.now))
     (ended_condition a.text.now a.registers.now a.functions.now a.arities.now a.first_test c.args.t.end) st p _
     (tested_answers a.text.now a.registers.now a.functions.now a.arities.now a.first_test c.args.t.end) c.tested-then-k-eq-ASSERT.ensures
-        c.in_err-condition-2.was c.from_residual-in_err-condition-2.ensures)
+    c.in_err-condition-2.was c.from_residual-in_err-condition-2.ensures)
 
 pub returns-then-k-eq-ASSERT : goal.returns-then-k-eq-ASSERT
 returns-then-k-eq-ASSERT c =
@@ -56,9 +56,9 @@ returns-then-k-eq-ASSERT c =
     let p = c.args.points.now in
     let st = progress c.args.at p in
     law.plain_assert a.text.now a.registers.now a.functions.now a.arities.now a.first_test c.args.t st (progress c.in_ok-condition-2.e
-        c.pose-then-k-eq-ASSERT.new.self) c.if-k-eq-ASSERT.true
+    c.pose-then-k-eq-ASSERT.new.self) c.if-k-eq-ASSERT.true
     (law.posed_outcome (length a.registers.now) Check (ended_condition a.text.now a.registers.now a.functions.now a.arities.now a.first_test
-        c.args.t.end) c.args.at p c.pose-then-k-eq-ASSERT.new.self
+    c.args.t.end) c.args.at p c.pose-then-k-eq-ASSERT.new.self
     c.tested-then-k-eq-ASSERT.ensures c.in_ok-condition-2.was c.pose-then-k-eq-ASSERT.ensures)
 
 pub returns-in_err-letter : goal.returns-in_err-letter
@@ -67,11 +67,11 @@ returns-in_err-letter c =
     let p = c.args.points.now in
     let st = progress c.args.at p in
     law.plain_assign a.text.now a.registers.now a.functions.now a.arities.now a.first_test c.args.t st c.if-k-eq-SKIP.false c.if-k-eq-ASSUME.false
-        c.if-k-eq-ASSERT.false _ c.is_name.ensures _ c.if-is_name.true
+    c.if-k-eq-ASSERT.false _ c.is_name.ensures _ c.if-is_name.true
     (law.refused_outcome (λ x e. (letter_of x, e)) (λ x _. waiting Step (letter_of x) ∷ []) (assignment a.text.now a.registers.now a.functions.now
-        a.arities.now a.first_test c.args.at) st p _
+    a.arities.now a.first_test c.args.at) st p _
     (assignment_answers a.text.now a.registers.now a.functions.now a.arities.now a.first_test c.args.at) c.assignment.ensures c.in_err-letter.was
-        c.from_residual-in_err-letter.ensures)
+    c.from_residual-in_err-letter.ensures)
 
 pub returns-then-is_name : goal.returns-then-is_name
 returns-then-is_name c =
@@ -79,9 +79,9 @@ returns-then-is_name c =
     let p = c.args.points.now in
     let st = progress c.args.at p in
     law.plain_assign a.text.now a.registers.now a.functions.now a.arities.now a.first_test c.args.t st c.if-k-eq-SKIP.false c.if-k-eq-ASSUME.false
-        c.if-k-eq-ASSERT.false _ c.is_name.ensures (progress c.in_ok-letter.e c.push.new.self) c.if-is_name.true
+    c.if-k-eq-ASSERT.false _ c.is_name.ensures (progress c.in_ok-letter.e c.push.new.self) c.if-is_name.true
     (law.assigned_outcome (assignment a.text.now a.registers.now a.functions.now a.arities.now a.first_test c.args.at) c.args.at p c.push.new.self
-        c.assignment.ensures c.in_ok-letter.was c.push.ensures)
+    c.assignment.ensures c.in_ok-letter.was c.push.ensures)
 
 pub returns : goal.returns
 returns c =
@@ -89,4 +89,4 @@ returns c =
     let p = c.args.points.now in
     let st = progress c.args.at p in
     law.plain_unfit a.text.now a.registers.now a.functions.now a.arities.now a.first_test c.args.t st c.if-k-eq-SKIP.false c.if-k-eq-ASSUME.false
-        c.if-k-eq-ASSERT.false _ c.is_name.ensures _ p c.if-is_name.false c.unfitting.ensures
+    c.if-k-eq-ASSERT.false _ c.is_name.ensures _ p c.if-is_name.false c.unfitting.ensures
