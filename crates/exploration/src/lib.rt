@@ -61,13 +61,7 @@ fn choose(point: PointEntry, b: usize) -> PointMove
     let letter = point.letter;
     let first = PointMove::Goes(letter, point.first as usize);
     match point.kind {
-        PointKind::Step => {
-            if b == 0 {
-                first
-            } else {
-                PointMove::Nothing
-            }
-        }
+        PointKind::Step => { if b == 0 { first } else { PointMove::Nothing } }
         PointKind::Check => {
             if b == 0 {
                 PointMove::Fails(opposite(letter))

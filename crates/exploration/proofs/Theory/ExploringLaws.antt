@@ -98,6 +98,7 @@ pub search_goes : (h : Header) (ps : List PointEntry) (end n : ℕ) (t : List �
     → (r ≡ (search_of h ps end n t).0) × (v ≡ (search_of h ps end n t).1)
 unfolding search_of
 search_goes h ps end n t a b w pair u e f g r v x y =
-    let z : u ≡ put_at t 0 (record_of (encoded 0 (fresh_of h.registers)) 0 0) = g ∙ ap (λ q. put_at t 0 (record_of q 0 0)) (f ∙ ap (encoded 0) e) in
-    (x ∙ rw (ne_eqb end 0 a, ne_eqb n 0 b) (ap (λ q. (explore_of ps end n q).0) z),
-    y ∙ rw (ne_eqb end 0 a, ne_eqb n 0 b) (ap (λ q. (explore_of ps end n q).1) z))
+    let z : u ≡ put_at t 0 (record_of (encoded 0 (fresh_of h.registers)) 0 0) = g ∙ ap (λ q. put_at t 0 (record_of q 0 0)) (f ∙ ap (encoded 0) e) in (
+      x ∙ rw (ne_eqb end 0 a, ne_eqb n 0 b) (ap (λ q. (explore_of ps end n q).0) z),
+      y ∙ rw (ne_eqb end 0 a, ne_eqb n 0 b) (ap (λ q. (explore_of ps end n q).1) z),
+    )

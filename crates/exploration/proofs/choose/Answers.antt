@@ -1,4 +1,4 @@
-use Rattle.std.proofs.Common.{ap, ◌∙◌}
+use Rattle.std.proofs.Common.{ap}
 use borrow.Author.Tests.{eq-eqb, ne_eqb}
 use Rattle.exploration.specs.declared.PointMove.TheVariants.{Goes, Fails}
 use Rattle.exploration.specs.Moves.{move_of}

@@ -1,4 +1,4 @@
-use Rattle.std.proofs.Common.{rules, ◌%◌, ◌∙◌}
+use Rattle.std.proofs.Common.{rules, ◌∙◌}
 use Rattle.exploration.proofs.Theory.TurnLaws.{turn_nothing, turn_goes, turn_breaks, turn_fails, turn_breaks_failing}
 use Rattle.exploration.proofs.Theory.Keeping.{keeps_failed, keeps_broken}
 use Rattle.exploration.proofs.Turn.perform.Goals as goal
