@@ -156,6 +156,7 @@ fn below(link: &Numbers, start: usize, bound: usize) -> usize
     ensures { Cut link.now start bound result }
 {
     let mut i = start;
+    // Links are followed: these numbers are no range.
     while bound <= i {
         i = link[i] as usize;
     }
@@ -176,6 +177,7 @@ impl Index {
         ensures { Found (signatures terms.now) terms.now.registers n self.now.link start c result }
     {
         let mut i = start;
+        // Links are followed: these numbers are no range.
         while terms.registers <= i {
             if terms.signature_at(i) == c {
                 return i;
@@ -252,6 +254,7 @@ impl Terms {
         ensures same { self.new ≡ with_classes self.old self.new.representative }
     {
         let mut i = start;
+        // A union leads back to an earlier application: these numbers are no range.
         while i < self.count {
             let c = self.signature_at(i);
             let o = index.enter(self, i, c);

@@ -27,7 +27,8 @@ AppliedTo t i f a b u j = Applied t.function t.first t.second t.representative i
     u.function u.first u.second u.representative j.head j.link
 
 abbrev pub ComputableIn : Terms → Progress → (x f y z : ℕ) → Type 0
-ComputableIn t p x f y z = Computable t.function t.first t.second t.representative p.index.head p.index.link p.value t.registers (counts_of t.count p.tests) x f y z
+ComputableIn t p x f y z = Computable t.function t.first t.second t.representative p.index.head p.index.link p.value t.registers
+    (counts_of t.count p.tests) x f y z
 
 abbrev pub ComputingIn : Terms → Progress → (x f y z : ℕ) → Terms → Progress → Type 0
 ComputingIn t p x f y z u q = Computing t.function t.first t.second t.representative p.index.head p.index.link p.value t.registers (counts_of t.count p.tests)

@@ -73,7 +73,8 @@ pub numbers_infeasible : (s : ShowResult) (letter : ℕ) → s ≡ Ok (shown.Inf
 unfolding model_numbers
 numbers_infeasible s letter e = rw e refl
 
-pub numbers_unshown : (s : ShowResult) (e : reasons.Refused) (number : ℕ) → s ≡ Err e → number ≡ number_of e.reason → number ∷ e.place ∷ 0 ∷ 0 ∷ [] ≡ model_numbers (shown_answer s)
+pub numbers_unshown : (s : ShowResult) (e : reasons.Refused) (number : ℕ) → s ≡ Err e → number ≡ number_of e.reason
+    → number ∷ e.place ∷ 0 ∷ 0 ∷ [] ≡ model_numbers (shown_answer s)
 unfolding model_numbers
 numbers_unshown s e number q g = rw (q, g) refl
 

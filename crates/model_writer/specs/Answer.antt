@@ -53,7 +53,8 @@ laid_in bytes out = pick (leb (length bytes) (length out)) (λ _. bytes ++ drop 
 -- "An infeasible trace gets the first letter at which it is so, and no output. For a feasible trace, coherent or not:" the model, where it fits (SPEC 7.1).
 unfoldable pub answer_to : TraceReading → ℕ → ModelAnswer
 answer_to (TraceReading.refused number place) room = ModelAnswer.refusal number place
-answer_to (trace h ls) room = pick (eqb (first_infeasible (trace_of h ls)) 0) (λ _. fitted (model_bytes (state (trace_of h ls))) room) λ _. ModelAnswer.infeasible
+answer_to (trace h ls) room = pick (eqb (first_infeasible (trace_of h ls)) 0) (λ _. fitted (model_bytes (state (trace_of h ls))) room)
+    λ _. ModelAnswer.infeasible
     (first_infeasible (trace_of h ls))
 
 unfoldable pub output_after : TraceReading → List ℕ → List ℕ

@@ -25,7 +25,8 @@ zeros (suc n) zero = refl
 zeros (suc n) (suc q) = zeros n q
 
 module _ (representative left right : List ℕ) (m : ℕ) where
-  pub parts_more : (i a b : ℕ) → Parts representative left right i → a ≡ get_or left i 0 → b ≡ get_or right i 0 → get_or representative a 0 ≢ get_or representative b 0
+  pub parts_more : (i a b : ℕ) → Parts representative left right i → a ≡ get_or left i 0 → b ≡ get_or right i 0
+      → get_or representative a 0 ≢ get_or representative b 0
       → Parts representative left right (i + 1)
   unfolding Parts
   parts_more i a b h p q x k l = by_test (eqb k i)

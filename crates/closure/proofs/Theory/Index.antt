@@ -293,7 +293,8 @@ module _ (signature : ℕ → ℕ) (registers n c : ℕ) (head link : List ℕ) 
     -- what a bucket had it still has
     bucket : (q o : ℕ) → ChainHas registers link (get_or head q 0) o → ChainHas registers (set link n (get_or head b 0)) (get_or (set head b n) q 0) o
     bucket q o k = by_test (eqb q b)
-        (λ t. let e = eqb-true q b t in subst (λ j. ChainHas registers (set link n (get_or head b 0)) j o) (sym (ap (λ q. get_or (set head b n) q 0) e ∙ headed))
+        (λ t. let e = eqb-true q b t in subst (λ j. ChainHas registers (set link n (get_or head b 0)) j o) (sym (ap (λ q. get_or (set head b n) q 0) e
+        ∙ headed))
         (there more (subst (λ j. ChainHas registers (set link n (get_or head b 0)) j o) (ap (λ q. get_or head q 0) e ∙ sym linked)
         (held (get_or head q 0) o (w.heads q) k))))
         (λ t. subst (λ j. ChainHas registers (set link n (get_or head b 0)) j o) (sym (get_or-set_other head b q n 0 (eqb-false q b t)))

@@ -90,7 +90,8 @@ unfolding sum_below
 total_le zero l m h = omega arith
 total_le (suc k) l m h = let a = h k (omega arith) in let b = total_le k l m (λ i p. h i (omega arith)) in omega arith
 
-total_lt : (k : ℕ) (l m : List ℕ) (p : ℕ) → p < k → ((i : ℕ) → i < k → get_or l i 0 ≤ get_or m i 0) → get_or l p 0 < get_or m p 0 → sum_below k l < sum_below k m
+total_lt : (k : ℕ) (l m : List ℕ) (p : ℕ) → p < k → ((i : ℕ) → i < k → get_or l i 0 ≤ get_or m i 0) → get_or l p 0 < get_or m p 0
+    → sum_below k l < sum_below k m
 unfolding sum_below
 total_lt zero l m p b h x = absurd (omega arith)
 total_lt (suc k) l m p b h x = by_test (eqb p k)
@@ -481,7 +482,8 @@ module _ (function first second : List ℕ) (registers n : ℕ) where
   -- one union, where the classes are closed after it
   pub united_merged : (representative next head link : List ℕ) (x y : ℕ) → Formed representative function first second registers n → x < n → y < n
       → United n x y representative next
-      → Closed (entry_at function) (entry_at first) (entry_at second) registers n (entry_at next) → IndexedTerms next function first second registers n head link
+      → Closed (entry_at function) (entry_at first) (entry_at second) registers n (entry_at next)
+      → IndexedTerms next function first second registers n head link
       → Merged representative function first second registers n x y next head link
   united_merged representative next head link x y f p q m st w = let g = united_formed representative next x y f p q m in
       merged_is representative next next head link x y f p q m (record { joined = joined_none next g; closed = st; indexed = w })

@@ -104,7 +104,8 @@ module _ (function first second representative head link : List ℕ) (registers 
     still_closed : Closed (entry_at function) (entry_at first) (entry_at second) registers n (entry_at next)
     unfolding Closed
     still_closed i j l h r k e u v =
-        m.at_each i h ∙ ap (relabel_of (max (get_or representative x 0) (get_or representative y 0)) (min (get_or representative x 0) (get_or representative y 0)))
+        m.at_each i h ∙ ap (relabel_of (max (get_or representative x 0) (get_or representative y 0))
+        (min (get_or representative x 0) (get_or representative y 0)))
         (st i j l h r k e (sym (first_same i h) ∙ u ∙ first_same j k) (sym (second_same i h) ∙ v ∙ second_same j k)) ∙ sym (m.at_each j k)
 
   pub merged_unused : (d : ℕ) (b : Bool) → d ≡ max (get_or representative x 0) (get_or representative y 0) → UsedAsArgument representative first second n d b

@@ -179,7 +179,8 @@ module _ (σ : State) (function first second representative head link value left
       → Engine (after σ (Copy x y)) function first second representative head link (set value x (get_or value y 0)) left right registers n m p (suc k)
   engine_copy x y (hx, hy) = record {
     formed = w.formed;
-    represents = represents_copy σ (entry_at function) (entry_at first) (entry_at second) (entry_at representative) registers n (entry_at value) w.represents x y
+    represents = represents_copy σ (entry_at function) (entry_at first) (entry_at second) (entry_at representative) registers n
+        (entry_at value) w.represents x y
         (entry_at (set value x (get_or value y 0))) lx.0 (register_below y hy).0 same;
     indexed = w.indexed;
     sides = record { left_below = w.sides.left_below; right_below = w.sides.right_below; listed = w.sides.listed; all = w.sides.all };
@@ -210,7 +211,8 @@ module _ (σ : State) (function first second representative head link value left
 
   pub engine_apply : (x f y z : ℕ) (name : ℕ) (head' link' : List ℕ) → k < most_letters → Fits σ.header (Apply x f y z)
       → LookedAt representative function first second registers n f (get_or value y 0) (get_or value z 0) name
-      → IndexedTerms (set representative n name) (set function n f) (set first n (get_or value y 0)) (set second n (get_or value z 0)) registers (suc n) head' link'
+      → IndexedTerms (set representative n name) (set function n f) (set first n (get_or value y 0)) (set second n (get_or value z 0)) registers
+          (suc n) head' link'
       → Engine (after σ (Apply x f y z)) (set function n f) (set first n (get_or value y 0)) (set second n (get_or value z 0))
       (set representative n name) head' link' (set value x n) left right registers (suc n) m p (suc k)
   engine_apply x f y z name head' link' few fits look index = record {

@@ -21,7 +21,8 @@ use Rattle.letters.specs.Letters.{HeaderFits}
 use Rattle.letters.specs.Coding.{decode_letter}
 use Rattle.letters.proofs.Theory.WordLaws.{first_roomy, decode-header, decode-letter}
 use Rattle.traces.proofs.Theory.Units.{unit_at}
-use Rattle.traces.specs.Reading.{TraceReading, trace, prepend_letter, octets, reading, reading_where, beginning, letters_from, letters_of, letter_in, letter_count}
+use Rattle.traces.specs.Reading.{TraceReading, trace, prepend_letter, octets, reading}
+use Rattle.traces.specs.Reading.{reading_where, beginning, letters_from, letters_of, letter_in, letter_count}
 use Rattle.traces.specs.Reading.{chunks}
 use Rattle.traces.specs.ReadingParts.{reading_within, letter_at}
 use Rattle.letters.specs.RefusalNumbers.{letter_malformed}
@@ -85,7 +86,8 @@ module _ (s : List ℕ) (h : Header) (n : ℕ) (r : Begun s h n) where
     unit = let c = r.letters in rw (le-leb (2 * (k + 2)) (length s) (omega arith))
 
     -- the letters from k on are letter k and the others
-    rest_is : reading_from s h n k ≡ on_answer (letter_answer d) (λ l. prepend_letter l (reading_from s h n (k + 1))) λ _ _. TraceReading.refused letter_malformed
+    rest_is : reading_from s h n k ≡ on_answer (letter_answer d) (λ l. prepend_letter l (reading_from s h n (k + 1)))
+        λ _ _. TraceReading.refused letter_malformed
         (k + 1)
     unfolding chunks letters_from
     rest_is =
@@ -99,12 +101,14 @@ module _ (s : List ℕ) (h : Header) (n : ℕ) (r : Begun s h n) where
         ∙ ap (λ a. on_answer a (λ l. prepend_letter l (reading_from s h n (k + 1))) λ _ _. TraceReading.refused letter_malformed (k + 1)) (sym (e ∙ unit))
 
     pub rest_bad : d ≡ None → reading_from s h n k ≡ TraceReading.refused letter_malformed (k + 1)
-    rest_bad q = rest_is ∙ ap (λ d. on_answer (letter_answer d) (λ l. prepend_letter l (reading_from s h n (k + 1))) λ _ _. TraceReading.refused letter_malformed
+    rest_bad q = rest_is ∙ ap (λ d. on_answer (letter_answer d) (λ l. prepend_letter l (reading_from s h n (k + 1)))
+        λ _ _. TraceReading.refused letter_malformed
         (k + 1)) q
 
     module _ {l : Letter} (q : d ≡ Some l) where
       pub rest_good : reading_from s h n k ≡ prepend_letter l (reading_from s h n (k + 1))
-      rest_good = rest_is ∙ ap (λ d. on_answer (letter_answer d) (λ l. prepend_letter l (reading_from s h n (k + 1))) λ _ _. TraceReading.refused letter_malformed
+      rest_good = rest_is ∙ ap (λ d. on_answer (letter_answer d) (λ l. prepend_letter l (reading_from s h n (k + 1)))
+          λ _ _. TraceReading.refused letter_malformed
           (k + 1)) q
 
       pub letter_fits : Fits h l

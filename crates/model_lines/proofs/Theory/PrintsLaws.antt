@@ -103,7 +103,8 @@ pub few_room : {text : List ℕ} → length text ≤ most_model_line_bytes → P
 few_room h = record { fits = omega (arith, h) }
 
 module _ (entry out exit : List ℕ) (r : ShowResult) (size : ℕ) where
-  pub wrote_model : (n : ℕ) → r ≡ Ok (Model n) → ModelWithin r (length out) → Appended entry 0 (model_line (take n out)) exit size → WroteLine entry r out size exit
+  pub wrote_model : (n : ℕ) → r ≡ Ok (Model n) → ModelWithin r (length out)
+      → Appended entry 0 (model_line (take n out)) exit size → WroteLine entry r out size exit
   unfolding line_of
   wrote_model n e h a = subst (λ (q : ShowResult). WroteLine entry q out size exit)
       (sym e) record { few = model_few (take n out) (omega (arith, held.0, held.1, length-take-le n out held.0)); appended = a }

@@ -159,7 +159,8 @@ module _ (h : Header) (function first second representative : List ℕ) (n : ℕ
           let b = length-map (take r rows) (row_for values function first second)
           ∙ length-take-le r rows (let a = l.room in let b = rows_few.0 in omega arith) in omega arith)
 
-    too_long : (out : List ℕ) → length out < model_length h r → Modelled h function first second representative n out (Err (record { reason = OutputTooSmall; place = 0 })) out
+    too_long : (out : List ℕ) → length out < model_length h r
+        → Modelled h function first second representative n out (Err (record { reason = OutputTooSmall; place = 0 })) out
     unfolding Modelled
     too_long out b σ e x = let q = bytes_long σ e x in let t = lt-leb (length (model_bytes σ)) (length out) (omega arith) in (rw t, rw t)
 
@@ -206,7 +207,8 @@ module _ (s : List ℕ) (h : Header) (n : ℕ) (r : run.Begun s h n) (out : List
   )
   ran_infeasible k (run.feasible ls e i c) q = let z : ◌≡◌ {A = ℕ} 0 1 = cc in absurd (omega arith)
 
-  ran_feasible : {function first second representative : List ℕ} {m : ℕ} {o : Result (Option ℕ) Refused} → run.Ran s h n function first second representative m o
+  ran_feasible : {function first second representative : List ℕ} {m : ℕ} {o : Result (Option ℕ) Refused}
+      → run.Ran s h n function first second representative m o
       → o ≡ Ok None
       → (ls : List Letter) × (letters_of first_edition h s ≡ trace h ls) × (0 ≡ first_infeasible (trace_of h ls))
       × Computed (state (trace_of h ls)) function first second representative h.registers m

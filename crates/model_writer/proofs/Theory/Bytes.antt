@@ -65,7 +65,8 @@ five_laid out at w h =
 
 -- the last five of the eight bytes of a number, laid in at a place
 pub five_put : (out bytes : List ℕ) (at w k : ℕ) → at + 4 < length out → k ≡ 5 → bytes ≡ five_of w → put_mid at k out bytes ≡ put_five out at w
-five_put out bytes at w k h e g = (λ j. put_mid at (e j) out (g j)) ∙ ap (λ l. take at out ++ (five_of w ++ l)) (drop-drop 5 at out) ∙ sym (five_laid out at w h)
+five_put out bytes at w k h e g = (λ j. put_mid at (e j) out (g j)) ∙ ap (λ l. take at out ++ (five_of w ++ l)) (drop-drop 5 at out)
+    ∙ sym (five_laid out at w h)
 
 pub five_inserted : (out : List ℕ) (at w : ℕ) → at + 4 < length out → put_five out at w ≡ inserted at (units row_bytes (w ∷ [])) out
 unfolding inserted
@@ -147,7 +148,8 @@ module _ (h : Header) (values function first second : List ℕ) (i a b f A s S C
     (ef : f ≡ get_or function i 0) (e_a : A ≡ get_or values a 0)
     (es : s ≡ second_written h (get_or function i 0) (get_or values b 0)) (e_s : S ≡ s) (e_c : C ≡ get_or values i 0) where
   pub word_of : joined_of f A S C ≡ word_for h values function first second i
-  word_of = rw (ef, e_a, ea, e_s, e_c) (word_is h values function first second i s (es ∙ ap (λ k. second_written h (get_or function i 0) (get_or values k 0)) eb))
+  word_of = rw (ef, e_a, ea, e_s, e_c) (word_is h values function first second i s (es
+      ∙ ap (λ k. second_written h (get_or function i 0) (get_or values k 0)) eb))
 
   pub fields_small : RowIn values function first second i → (f < most_functions) × (A < value_range) × (S < value_range) × (C < value_range)
   fields_small r = (
@@ -249,7 +251,8 @@ whole h values function first second rows count r out o₁ o₂ o₃ o₄ w e₁
         (let b = l₁ in let c = units_length word_bytes (r ∷ []) in let d = fits in omega arith)
 
     p₃ : o₃ ≡ inserted 0 (A₂ ++ S) out
-    p₃ = e₃ ∙ ap (inserted counts_bytes S) p₂ ∙ inserted_more 0 4 A₂ S out (let b = l₂ in omega arith) (let b = l₂ in let c = l_s in let d = fits in omega arith)
+    p₃ = e₃ ∙ ap (inserted counts_bytes S) p₂ ∙ inserted_more 0 4 A₂ S out (let b = l₂ in omega arith) (let b = l₂ in
+        let c = l_s in let d = fits in omega arith)
 
     p₄ : o₄ ≡ inserted 0 ((A₂ ++ S) ++ W) out
     p₄ = e₄ ∙ ap (inserted (counts_bytes + word_bytes * h.registers) W) p₃

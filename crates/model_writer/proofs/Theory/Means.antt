@@ -50,7 +50,8 @@ module _ (limit : ℕ) (e : Edition) (s : List ℕ) (h : Header) (ls : List Lett
   within q = go (beginning e s) q
     where
       go : (a : letters.Answer Header)
-          → letters.on_answer a (λ g. pick (ltb limit (letter_count e s)) (λ _. TraceReading.refused trace_too_long 0) λ _. letters_of e g s) TraceReading.refused
+          → letters.on_answer a (λ g. pick (ltb limit (letter_count e s)) (λ _. TraceReading.refused trace_too_long 0)
+              λ _. letters_of e g s) TraceReading.refused
           ≡ trace h ls
           → (letters.on_answer a (λ g. letters_of e g s) TraceReading.refused ≡ trace h ls) × (length ls ≤ limit)
       go (letters.refusal a b) q = absurd (not_trace q)
@@ -147,7 +148,8 @@ module _ (s out : List ℕ) where
   reading_means (trace h ls) q = trace_means s h ls q out (first_infeasible (trace_of h ls)) refl
 
   -- What the definitions answer means what it should.
-  pub answer_means : Means s out (answer_to (reading_within most_letters first_edition s) (length out)) (output_after (reading_within most_letters first_edition s) out)
+  pub answer_means : Means s out (answer_to (reading_within most_letters first_edition s) (length out))
+      (output_after (reading_within most_letters first_edition s) out)
   answer_means = reading_means (reading_within most_letters first_edition s) refl
 
   pub showed : (r : ShowResult) (out' : List ℕ) → shown_answer r ≡ answer_to (reading_within most_letters first_edition s) (length out)

@@ -17,7 +17,8 @@ loop-k-preserved c = (
   c.loop-k.invariant.0,
   undoing_turn _ _ _ _ _ _ c.requires.2 c.requires.0.some c.requires.3 _ _ _ _ _ c.loop-k.invariant.1 c.loop-k-test.true refl
       (ap (λ s. s % signature_chains) c.signature_at-chain.ensures) (mod-lt _ (omega arith))
-      (c.without_last.ensures ∙ ap (λ (l : List ℕ). without_last (get_or c.loop-k.self.head (c.signature_at-chain.result % 1021) 0) (get_or l (c.loop-k.k - 1) 0)
+      (c.without_last.ensures ∙ ap (λ (l : List ℕ). without_last (get_or c.loop-k.self.head (c.signature_at-chain.result % 1021) 0)
+      (get_or l (c.loop-k.k - 1) 0)
       (c.loop-k.k - 1)) c.loop-k.invariant.0),
 )
 

@@ -3,7 +3,8 @@ use Rattle.engine.proofs.Theory.RunLaws.{malformed_at, ready, clash_ready, goes_
 use Rattle.engine.proofs.Progress.perform.Goals as goal
 
 pub returns-in_default-clause-ran : goal.returns-in_default-clause-ran
-returns-in_default-clause-ran c = rw c.at.ensures (malformed_at _ _ _ c.requires.0 _ _ _ _ _ _ _ _ _ _ (counts_of c.loop-k.terms.count c.loop-k.self.tests) _ c.loop-k-test.true
+returns-in_default-clause-ran c = rw c.at.ensures (malformed_at _ _ _ c.requires.0 _ _ _ _ _ _ _ _ _ _
+    (counts_of c.loop-k.terms.count c.loop-k.self.tests) _ c.loop-k-test.true
     c.loop-k.invariant.0 _ c.letter_at.ensures c.in_default.is)
 
 pub step-requires : goal.step-requires
@@ -30,5 +31,6 @@ loop-k-preserved c = (
 )
 
 pub returns-clause-ran : goal.returns-clause-ran
-returns-clause-ran c = ends _ _ _ c.requires.0 _ _ _ _ _ _ _ _ _ _ (counts_of c.loop-k.terms.count c.loop-k.self.tests) _ c.loop-k-test.false c.loop-k.invariant.1
+returns-clause-ran c = ends _ _ _ c.requires.0 _ _ _ _ _ _ _ _ _ _ (counts_of c.loop-k.terms.count c.loop-k.self.tests) _ c.loop-k-test.false
+    c.loop-k.invariant.1
     c.loop-k.invariant.0
