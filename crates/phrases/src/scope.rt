@@ -77,6 +77,7 @@ impl Scope<'_> {
     }
 
     // Behind the first argument y of the function f, which takes n.
+    // Each number by itself, since a struct of them would be made for this one call and taken apart in it.
     fn arguments(&self, n: u8, x: u8, f: u8, y: u8, at: usize) -> Result<(Letter, usize), Refused>
         ensures { result
             ≡ lettered same_letter (arguments_t self.now.text.now self.now.registers.now (Apply x f) n y (token_at self.now.text.now at)) }
