@@ -43,7 +43,8 @@ fn perform_if(slots: &mut SlotWindow, fine: bool, letter: Letter)
     }
 }
 
-// The letters of these bytes, from a run with a window that these slots stand for.
+// The letters of these bytes, from a run with a window that these slots stand for. The parts of the run are parameters of their own: a struct of
+// them, a run without its window, would be read nowhere else.
 fn take_from(
     header: Header,
     mut slots: SlotWindow,

@@ -26,7 +26,8 @@ pub struct Monitor {
     pub running: bool,
 }
 
-/// What the run over a trace answers.
+/// What the run over a trace answers. Its refusal stays a number of 8 bits: a stored state may hold any byte there, and `fadzgime_stream_finish`
+/// answers it (FinishesStream).
 #[derive(Clone, Copy)]
 pub enum RunAnswer {
     /// The first incoherent letter, and the first infeasible letter before it; 0 for none.
