@@ -56,7 +56,8 @@ module _ (m : Monitor) (word : ℕ) where
   unfolding advance
   refused_stays next number e = by (decode_letter first_edition m.header word) e
     where
-      by : (d : Answer Letter) → stepped (outcome.Refused number) next ≡ on_answer d (λ a. stepped outcome.Taken (moved_of m a)) (λ n _. stepped (outcome.Refused n) m)
+      by : (d : Answer Letter)
+          → stepped (outcome.Refused number) next ≡ on_answer d (λ a. stepped outcome.Taken (moved_of m a)) (λ n _. stepped (outcome.Refused n) m)
           → next ≡ m
       by (value a) q = let o : outcome.Refused number ≡ outcome.Taken = ap (λ (s : Stepped). s.outcome) q in cc
       by (refusal n place) q = ap (λ (s : Stepped). s.monitor) q
@@ -108,7 +109,8 @@ module _ (s : Stream) where
   finish_at p e = rw e
 
 -- one turn of the loop over the bytes
-pub pushed_more : (bytes : List ℕ) (i : ℕ) (s next whole : Stream) → i < length bytes → pushed_all s (drop i bytes) ≡ whole → next ≡ pushed_of s (get_or bytes i 0)
+pub pushed_more : (bytes : List ℕ) (i : ℕ) (s next whole : Stream) → i < length bytes → pushed_all s (drop i bytes) ≡ whole
+    → next ≡ pushed_of s (get_or bytes i 0)
     → pushed_all next (drop (i + 1) bytes) ≡ whole
 unfolding pushed_all
 pushed_more bytes i s next whole l e d =

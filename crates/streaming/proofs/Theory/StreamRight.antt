@@ -17,7 +17,8 @@ use Rattle.letters.specs.Editions.{first_edition}
 use Rattle.letters.specs.Words.{header_word, letter_word}
 use Rattle.letters.specs.Coding.{header_test, fits_test, named_header, named_letter, decode_header, decode_letter}
 use Rattle.letters.proofs.Theory.WordLaws.{first_roomy}
-use Rattle.traces.specs.Reading.{TraceReading, trace, octets, chunks, prepend_letter, letters_from, beginning, letter_count, letter_in, letters_of, reading_where}
+use Rattle.traces.specs.Reading.{TraceReading, trace, octets, chunks, prepend_letter, letters_from}
+use Rattle.traces.specs.Reading.{beginning, letter_count, letter_in, letters_of, reading_where}
 use Rattle.traces.specs.Reading.{reading}
 use Rattle.traces.specs.Traces.{AllFit}
 use Rattle.letters.specs.RefusalNumbers.{header_malformed, letter_malformed, trace_odd_length, trace_too_short}

@@ -16,5 +16,7 @@ returns-in-Err c =
 
 pub returns : goal.returns
 unfolding judged_run
-returns c = run_takes _ _ _ (take_taken c.args.self.now c.args.word _ _ c.in-Judged.is _ c.next_number-number.ensures _ c.in_default-step.ensures.computed _ refl
+returns c =
+    let e = c.in_default-step.ensures.computed in
+    run_takes _ _ _ (take_taken c.args.self.now c.args.word _ _ c.in-Judged.is _ c.next_number-number.ensures _ e _ refl
     (rw (c.first-one.ensures, c.first-two.ensures)))
