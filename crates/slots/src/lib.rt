@@ -5,7 +5,6 @@
 ghost use Rattle.std.specs.Prelude.{◌≡◌, Bool, true, cond, List, ℕ, ◌+◌, ◌*◌, ◌/◌, ◌%◌, ◌^◌, ◌<◌, eqb, length, get_or, set};
 ghost use Rattle.window.specs.Layout.{registers, functions, register_pairs, lines, results};
 ghost use Rattle.window.specs.Bits.{minus};
-ghost use Rattle.window.specs.Marks.{raised_of};
 ghost use Rattle.window.specs.Performing.{arguments_of};
 ghost use Rattle.window.specs.Perform.{WithinPacking};
 ghost use Rattle.slots.specs.Slots.{slot_of, Low, Laid};
@@ -25,8 +24,8 @@ ghost use Rattle.slots.specs.Performing.{same_window, represents_of};
 use letters::Letter;
 use std::marker::Model;
 use window::{
-    LINES, Mask, PAIRS, REGISTERS, RESULTS, Window, apart, below, clear_column, clear_row,
-    counted_classes, flag, forget_masks, holds, inhabited, move_bits, name, names, part,
+    LINES, Mask, PAIRS, REGISTERS, RESULTS, Window, apart, clear_column, clear_row,
+    counted_classes, flag, forget_masks, holds, inhabited, move_bits, name, names, part, raised,
     results_at, single, single_if, size, union, unite_column, unite_row,
 };
 
@@ -160,20 +159,6 @@ fn beside(around: &[Mask; PAIRS], s: usize) -> Mask
         m |= flag(around[REGISTERS * s + h], h);
     }
     m
-}
-
-// The slots of the seed and those that have one of them above. Two passes a turn, with one comparison for both; a function of its own beside
-// `window`'s, which has one pass a turn and would be called and not compiled into its caller: the bar of speed of long traces (PERFORMANCE.md).
-fn raised(up: &[Mask; REGISTERS], seed: Mask) -> Mask
-    ensures { result ≡ raised_of registers up.now seed }
-{
-    let mut s = seed | below(up, seed);
-    let mut t = s | below(up, s);
-    while t != s {
-        s = t | below(up, t);
-        t = s | below(up, s);
-    }
-    s
 }
 
 // The slots whose registers get a mark as slot s loses its value: those below a result that has s as an argument or that s holds, and `more` and

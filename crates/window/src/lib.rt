@@ -397,8 +397,9 @@ fn beside(t: &[Mask; PAIRS], x: usize) -> Mask
     m
 }
 
-// The registers of the seed and those that have one of them above.
-fn raised(up: &[Mask; REGISTERS], seed: Mask) -> Mask
+/// The registers of the seed and those that have one of them above.
+#[inline]
+pub fn raised(up: &[Mask; REGISTERS], seed: Mask) -> Mask
     ensures { result ≡ raised_of registers up.now seed }
 {
     let mut s = seed;
