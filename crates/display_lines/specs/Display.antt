@@ -36,7 +36,8 @@ lines_after letters m (high ∷ low ∷ bytes) =
 -- the lines for the bytes of a trace
 unfoldable pub trace_lines : List ℕ → List ℕ
 trace_lines bytes =
-    let m = (start_of (get_or bytes 0 0 * byte_values + get_or bytes 1 0)).monitor in monitor_line fresh_word 0 m ++ lines_after 0 m (drop first_edition.bytes bytes)
+    let m = (start_of (get_or bytes 0 0 * byte_values + get_or bytes 1 0)).monitor in
+    monitor_line fresh_word 0 m ++ lines_after 0 m (drop first_edition.bytes bytes)
 
 -- the lines for any bytes: a trace that is refused has one line, and nothing of it is judged
 unfoldable pub display_lines : List ℕ → List ℕ

@@ -60,6 +60,7 @@ impl From<Unread> for NotJudged {
 }
 
 /// Room for the lines of any trace.
+/// It stands for its clause, which says that the room is that of the longest lines as they are defined.
 pub fn line_space() -> [u8; MOST_BYTES]
     ensures { most_display_line_bytes ≡ length result }
 {

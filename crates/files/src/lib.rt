@@ -15,6 +15,7 @@ use std::io::{Error, Read};
 use std::ops::ControlFlow;
 
 /// How reading into a buffer ended. What was read stands in the buffer's front, and the bytes behind it stay as they were lent.
+/// An enum and no Result: of a read that failed too `Received` says how many bytes it left in the buffer.
 #[derive(Clone, Copy, PartialEq, Eq)]
 pub enum Input {
     /// The input ended, after so many bytes; they are fewer than the buffer's.
@@ -107,6 +108,7 @@ pub fn read<R: Read>(source: &mut Source<R>, buffer: &mut [u8]) -> Input
 {
     let mut piece = io::large_buffer();
     let mut done: usize = 0;
+    // Each turn goes on by as many bytes as a read gave, so there is nothing to go over by `for`.
     while done < buffer.len() {
         let once = read_once(source, buffer, done, &mut piece);
         match after(once, done) {

@@ -18,6 +18,7 @@ const MOST_READ: usize = LONGEST_TEXT + 1;
 pub const MOST_BYTES: usize = LONGEST_PRINT;
 
 /// Room for the lines of any text.
+/// It stands for its clause, which says that the room is that of the longest lines as they are defined.
 pub fn line_space() -> [u8; MOST_BYTES]
     ensures { most_layout_line_bytes ≡ length result }
 {

@@ -41,7 +41,8 @@ infeasible_line letter = line (infeasible_word ∷ numeral letter ∷ [])
 unfoldable pub read_line : TraceReading → List ℕ
 read_line (TraceReading.refused number place) = refused_line number place
 read_line (trace h ls) =
-    pick (eqb (first_infeasible (trace_of h ls)) 0) (λ _. model_line (model_bytes (state (trace_of h ls)))) λ _. infeasible_line (first_infeasible (trace_of h ls))
+    pick (eqb (first_infeasible (trace_of h ls)) 0) (λ _. model_line (model_bytes (state (trace_of h ls))))
+    λ _. infeasible_line (first_infeasible (trace_of h ls))
 
 -- The line for the bytes of a trace. Every model fits, so that there is no refusal by 6 (SPEC 12.4).
 abbrev pub line_for : List ℕ → List ℕ

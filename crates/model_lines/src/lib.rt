@@ -28,6 +28,7 @@ const MOST_MODEL: usize = 5180;
 pub const MOST_BYTES: usize = 10367;
 
 /// Room for the line of any trace.
+/// It stands for its clause, which says that the room is that of the longest lines as they are defined.
 pub fn line_space() -> [u8; MOST_BYTES]
     ensures { most_model_line_bytes ≡ length result }
 {

@@ -15,6 +15,7 @@ use text::{FIELDS, Writer};
 pub const MOST_BYTES: usize = 64;
 
 /// Room for the lines of any answer.
+/// It stands for its clause, which says that the room is that of the longest lines as they are defined.
 pub fn line_space() -> [u8; MOST_BYTES]
     ensures { most_monitor_line_bytes ≡ length result }
 {

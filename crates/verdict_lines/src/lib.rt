@@ -26,6 +26,7 @@ const ANSWER_BYTES: usize = 4096;
 pub const MOST_BYTES: usize = 32768;
 
 /// Room for the lines of any text.
+/// It stands for its clause, which says that the room is that of the longest lines as they are defined.
 pub fn line_space() -> [u8; MOST_BYTES]
     ensures { most_verdict_line_bytes ≡ length result }
 {

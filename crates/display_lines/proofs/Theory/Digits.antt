@@ -27,7 +27,8 @@ part_of b k n = div-div-eq-div-mul n b (b ^ k) ∙ ap (λ (d : ℕ). n / d) (sym
 digits_first : (b k n : ℕ) → last_digits b (suc k) n ≡ hex_digit_ascii (n / b ^ k % b) ∷ last_digits b k n
 digits_first b zero n = ap (λ (m : ℕ). hex_digit_ascii (m % b) ∷ []) (sym (div-one n) ∙ ap (λ (d : ℕ). n / d) (sym (pow-zero b)))
 digits_first b (suc k) n =
-    ap (λ (s : List ℕ). s ++ (hex_digit_ascii (n % b) ∷ [])) (digits_first b k (n / b) ∙ ap (λ (m : ℕ). hex_digit_ascii (m % b) ∷ last_digits b k (n / b)) (part_of b k n))
+    ap (λ (s : List ℕ). s ++ (hex_digit_ascii (n % b) ∷ []))
+    (digits_first b k (n / b) ∙ ap (λ (m : ℕ). hex_digit_ascii (m % b) ∷ last_digits b k (n / b)) (part_of b k n))
 
 digits_bytes : (k n : ℕ) → TokenBytes (last_digits hex_base k n)
 digits_bytes zero n = tt
@@ -47,7 +48,12 @@ pub record NameFrom (bytes : List ℕ) (i name : ℕ) : Type 0 where
   pub within : name < 256 ^ (word_digits - i)
 
 pub named_none : (bytes : List ℕ) → word_digits ≡ length bytes → NameFrom bytes word_digits 0
-named_none bytes h = record { first = omega arith; last = omega arith; name_is = rw (drop_of_length-le bytes {i = word_digits} (omega (arith, h))) refl; within = omega arith }
+named_none bytes h = record {
+  first = omega arith;
+  last = omega arith;
+  name_is = rw (drop_of_length-le bytes {i = word_digits} (omega (arith, h))) refl;
+  within = omega arith;
+}
 
 -- One more digit still fits.
 pub named_small : {bytes : List ℕ} {i name : ℕ} → NameFrom bytes i name → name_digits < i → name < 72057594037927936

@@ -62,7 +62,8 @@ module _ (k : ℕ) (m : Monitor) (fields : List ℕ) (f : StateFields k m.window
       simp length-append (omega arith)
 
   -- ── the line in a buffer ──
-  module _ (said template : List ℕ) (form : monitor_line said k m ≡ filled_in template fields) (l : length said ≤ 10) (h : k < most_display_lines) {at : ℕ} where
+  module _ (said template : List ℕ) (form : monitor_line said k m ≡ filled_in template fields) (l : length said ≤ 10) (h : k < most_display_lines)
+      {at : ℕ} where
     pub line_room : at ≤ most_display_line_bytes → PlaceInRange at (filled_in template fields)
     line_room a = room_same form record { fits = omega (arith, line_few said l h) }
 

@@ -15,4 +15,6 @@ pub loop-i-preserved : goal.loop-i-preserved
 loop-i-preserved c = named_more c.loop-i.invariant c.loop-i-test.true (search rules) (omega (arith, c.loop-i-test.element_fits.fits))
 
 pub returns : goal.returns
-returns c = named_whole c.args.number c.hex.result c.loop-i.invariant c.loop-i-test.false (search rules) c.ranges.number.fits c.hex.ensures.len c.hex.ensures.digits
+returns c =
+    named_whole c.args.number c.hex.result c.loop-i.invariant c.loop-i-test.false (search rules) c.ranges.number.fits
+    c.hex.ensures.len c.hex.ensures.digits

@@ -29,7 +29,8 @@ pub returns-then-m-clause-few : goal.returns-then-m-clause-few
 returns-then-m-clause-few c =
     let a = c.args in
     let f = c.state_fields-fields.ensures in
-    (line_put a.letters a.m _ f coherent_word coherent_template (coherent_state_form a.letters a.m _ f) (omega arith) c.requires.1 c.put_line.ensures.appended).1
+    (line_put a.letters a.m _ f coherent_word coherent_template (coherent_state_form a.letters a.m _ f) (omega arith) c.requires.1
+    c.put_line.ensures.appended).1
 
 pub returns-else-m-clause-appended : goal.returns-else-m-clause-appended
 returns-else-m-clause-appended c =

@@ -22,7 +22,8 @@ pub returns : goal.returns
 returns c =
     let a = c.args in
     let first = rw (c.new-writer.ensures.bytes, c.new-writer.ensures.place) at c.put_letter.ensures.appended in
-    let lines : Appended a.out.now 0 (coherence_line a.incoherent ++ feasibility_line a.infeasible) c.put_letter-2.new.writer.out.now c.put_letter-2.new.writer.at =
+    let after = c.put_letter-2.new.writer in
+    let lines : Appended a.out.now 0 (coherence_line a.incoherent ++ feasibility_line a.infeasible) after.out.now after.at =
     appended_then (coherence_line a.incoherent) (feasibility_line a.infeasible) (appended_same (sym (coherence_form a.incoherent)) first)
     (appended_same (sym (feasibility_form a.infeasible)) c.put_letter-2.ensures.appended) in
     search rules

@@ -199,7 +199,8 @@ module _ (m : Macro) (o : InOrder m) where
     pub pairs_few : pairs ≤ table_pairs
     pub letters_few : length letters ≤ table_pairs
     pub told : answer ≡ showing kind pairs (length letters)
-    pub bytes : output' ≡ packed first_edition (begin (header_of m)) kind letters ++ drop (length (packed first_edition (begin (header_of m)) kind letters)) output
+    pub bytes : output' ≡ packed first_edition (begin (header_of m)) kind letters
+        ++ drop (length (packed first_edition (begin (header_of m)) kind letters)) output
 
   pub event_shown : size_block (expanded m) ≤ most_points → (output : List ℕ) → length output ≡ answer_bytes → (answer : VerdictAnswer) (output' : List ℕ)
       → IsVerdict Feasible (begin (header_of m)) (expanded m) first_edition table_pairs output answer output'

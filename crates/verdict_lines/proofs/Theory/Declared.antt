@@ -63,7 +63,8 @@ spelled_size : (s : List ℕ) (n m k : ℕ) → m ≤ k → length (spelled_func
 spelled_size s n m k l =
     let a = spellings_length s (place_of s (first_function n)) entry_length m in
     let b = spellings_length s (place_of s (first_test_token n m)) entry_length (k - m) in
-    length-append (spellings s (place_of s (first_function n)) entry_length m) (spellings s (place_of s (first_test_token n m)) entry_length (k - m)) ∙ omega arith
+    length-append (spellings s (place_of s (first_function n)) entry_length m) (spellings s (place_of s (first_test_token n m)) entry_length (k - m))
+    ∙ omega arith
 
 module _ (text : List ℕ) (m : Macro) (a : Accepted text m) where
   registers : Declaring text m.registers m.register_spellings register_token
