@@ -58,13 +58,18 @@ fn reported(verdict: search::Verdict) -> report::ReportedVerdict
 fn write_verdict(text: &[u8], verdict: search::Verdict, answer: &[u8], lines: &mut [u8]) -> usize
     ensures { Reports text.now verdict answer.now lines.old result lines.new }
 {
-    let program = syntax::read(text).program;
+    let read = syntax::read(text);
+    let program = read.program;
+    let registers = program.registers;
+    let functions = program.functions;
+    let header = program.header;
     let declared = Declared {
-        registers: program.registers,
-        functions: program.functions,
-        header: program.header,
+        registers,
+        functions,
+        header,
     };
-    report::write_report(declared, reported(verdict), answer, lines).unwrap_or(0)
+    let shown = reported(verdict);
+    report::write_report(declared, shown, answer, lines).unwrap_or(0)
 }
 
 /// Writes the lines for the text of a macro into the front of a lent buffer, and gives the number of their bytes, which is at most `MOST_BYTES`.
