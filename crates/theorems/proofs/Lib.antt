@@ -9,5 +9,6 @@ pub mod UnequalFlags
 pub mod ClassCounts
 pub mod ClassCountExamples
 pub mod RelationExamples
+pub mod SideBySide
 pub mod Steps
 pub mod Examples
