@@ -45,6 +45,8 @@ pub type Sides = [u16; MOST_LETTERS];
 // So many applications, or more, are taken out of the index by a pass over all chains.
 const MANY: usize = 256;
 
+// Numbers side by side and not one array of structs: the relations of specs/Arrays.antt, which docs/ name, speak of lists of numbers, and uniting classes
+// goes over `representative` alone.
 /// The computed terms of a trace and their classes.
 #[derive(Drop)]
 pub struct Terms {
@@ -171,6 +173,7 @@ fn without_last(last: u16, before: u16, k: usize) -> u16
 }
 
 impl Index {
+    // Here and in `enter` a number stands for none: the relations `Found` and `Entered` say which.
     // An application with the signature c in the chain from `start` on, or a number below `registers` where there is none.
     fn find(&self, terms: &Terms, n: usize, start: usize, c: usize) -> usize
         requires { ReadableTerms terms.now n × (start < n) × Down self.now.link }

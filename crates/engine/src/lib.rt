@@ -59,6 +59,7 @@ fn apply(terms: &mut Terms, index: &mut Index, f: u16, a: u16, b: u16)
 }
 
 impl Progress {
+    // The fields of an application stay parameters: `step` takes the letter apart once.
     // target := f(a, b), with registers.
     fn compute(&mut self, terms: &mut Terms, target: u8, f: u8, a: u8, b: u8)
         requires { ComputableIn terms.old self.old target f a b }

@@ -1,4 +1,5 @@
-// The numbers of the refusals (SPEC 11.2 to 11.4; document 01, and 15 and 16 document 02).
+// The numbers of the refusals (SPEC 11.2 to 11.4; document 01, and 15 and 16 document 02). They stay beside `Reason`: C is answered by number, and a stored
+// state holds one.
 
 /// Of a trace. "At least two bytes? 1."
 pub const TRACE_TOO_SHORT: u8 = 1;

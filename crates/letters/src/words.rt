@@ -42,7 +42,7 @@ const LETTER_FIRST: u16 = 64;
 
 const LETTER_SECOND: u16 = 8;
 
-// The kinds of a letter, by the number in its word.
+// The kinds of a letter, by the number in its word. They stay numbers beside `Letter`: C hands them over in unpacked letters (`fadzgime_write`).
 /// The kind of a copy.
 pub const COPY: u8 = 0;
 
@@ -55,6 +55,7 @@ pub const EQUAL: u8 = 2;
 /// The kind of a test of inequality.
 pub const UNEQUAL: u8 = 3;
 
+// Stays beside the library's method: its clause, `high * 256 + low`, is what the laws of packing cite.
 /// Two bytes as a word, the first the more significant.
 pub fn word(high: u8, low: u8) -> u16
     ensures { result ≡ high * 256 + low }
@@ -62,6 +63,7 @@ pub fn word(high: u8, low: u8) -> u16
     u16::from_be_bytes([high, low])
 }
 
+// The buffer and the place stay two parameters: the buffer is lent (C interface), and each caller stores at places of its own.
 /// Stores a word at `at`, two bytes, and changes no other byte. For writers that have checked their room.
 pub fn put_word(out: &mut [u8], at: usize, word: u16)
     requires { at + 1 < length out.old }
@@ -186,6 +188,7 @@ pub fn decode_header(word: u16) -> Option<Header>
     }
 }
 
+// The fields stay six parameters: a struct of them would be `Letter` once more.
 // The word of a letter's fields, the spare field 0.
 fn packed_fields(kind: u8, function: u8, target: u8, first: u8, second: u8) -> u16
     requires { Sized first_edition.letter (kind ∷ function ∷ target ∷ first ∷ second ∷ 0 ∷ []) }
@@ -239,6 +242,7 @@ pub fn encode_letter(h: Header, l: Letter) -> Option<u16>
     }
 }
 
+// The fields stay parameters: any numbers are taken, and a struct of them would be `Letter` once more.
 /// The letter of this kind, well formed or not. The application of a one-argument function has its argument twice.
 #[tactic(auto, unfolding(crate::specs::Coding::letter_by))]
 pub fn letter_by(h: Header, kind: u8, function: u8, target: u8, first: u8, second: u8) -> Letter

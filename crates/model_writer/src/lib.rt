@@ -105,6 +105,7 @@ fn list(terms: &Terms, rows: &mut Numbers) -> usize
     r
 }
 
+// Here and below the buffer and the place stay two parameters: the buffer is lent (C interface), and each part has a place of its own.
 // Writes a row's number.
 fn put_five(out: &mut [u8], at: usize, word: u64)
     requires { at + 4 < length out.old }

@@ -32,6 +32,7 @@ pub fn fields_of(h: Header, l: Letter) -> [u8; UNPACKED_BYTES]
     }
 }
 
+// The buffer and the place stay two parameters: the buffer is lent (C interface).
 // Stores the five bytes of a letter from `to` on.
 fn put_fields(h: Header, l: Letter, out: &mut [u8], to: usize)
     requires { to + unpacked_letter_bytes ≤ length out.old }

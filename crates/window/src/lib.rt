@@ -320,6 +320,7 @@ fn renew_results(t: &mut [Mask], x: usize, f: usize, first: Mask, second: Mask)
 
 // ---- marks: what lies above a register by held results
 
+// This and `union` stay apart: they go over tables of different lengths, of which each caller has one.
 /// The classes that hold a result of any function at the i-th pair of registers.
 pub fn results_at(res: &[Mask; RESULTS], i: usize) -> Mask
     requires { i < register_pairs }
@@ -397,6 +398,7 @@ fn beside(t: &[Mask; PAIRS], x: usize) -> Mask
     m
 }
 
+// The loop stays a `while`: it goes on until nothing changes, and counts no index.
 /// The registers of the seed and those that have one of them above.
 #[inline]
 pub fn raised(up: &[Mask; REGISTERS], seed: Mask) -> Mask
@@ -519,6 +521,7 @@ fn rest(class: &[Mask; REGISTERS], entry: Mask) -> Mask
     0
 }
 
+// The empty mask stands for none: the definition `find_of`, by which `closed_of` goes on, says so.
 // The first result that is in two classes, or the empty mask.
 fn find(class: &[Mask; REGISTERS], res: &[Mask; RESULTS]) -> Mask
     ensures { result ≡ find_of registers functions class.now res.now 0 results }

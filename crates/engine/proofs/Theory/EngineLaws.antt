@@ -212,7 +212,7 @@ module _ (σ : State) (function first second representative head link value left
   pub engine_apply : (x f y z : ℕ) (name : ℕ) (head' link' : List ℕ) → k < most_letters → Fits σ.header (Apply x f y z)
       → LookedAt representative function first second registers n f (get_or value y 0) (get_or value z 0) name
       → IndexedTerms (set representative n name) (set function n f) (set first n (get_or value y 0)) (set second n (get_or value z 0)) registers
-          (suc n) head' link'
+      (suc n) head' link'
       → Engine (after σ (Apply x f y z)) (set function n f) (set first n (get_or value y 0)) (set second n (get_or value z 0))
       (set representative n name) head' link' (set value x n) left right registers (suc n) m p (suc k)
   engine_apply x f y z name head' link' few fits look index = record {

@@ -51,7 +51,7 @@ module _ (limit : ℕ) (e : Edition) (s : List ℕ) (h : Header) (ls : List Lett
     where
       go : (a : letters.Answer Header)
           → letters.on_answer a (λ g. pick (ltb limit (letter_count e s)) (λ _. TraceReading.refused trace_too_long 0)
-              λ _. letters_of e g s) TraceReading.refused
+          λ _. letters_of e g s) TraceReading.refused
           ≡ trace h ls
           → (letters.on_answer a (λ g. letters_of e g s) TraceReading.refused ≡ trace h ls) × (length ls ≤ limit)
       go (letters.refusal a b) q = absurd (not_trace q)
