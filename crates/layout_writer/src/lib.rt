@@ -12,7 +12,7 @@ ghost use Rattle.layout_theory.specs.Writing.{WritesLayout};
 ghost use Rattle.layout_writer.specs.Answer.{layout_answer};
 ghost use Rattle.layout_writer.specs.Tokens.{FirstSpelled, PrintedAs, empty_block_at, LaysOut};
 
-use letters::refusal_numbers::PRINT_TOO_LONG;
+use letters::reasons::{Reason, Refused};
 use syntax::LONGEST_TEXT;
 use text::Writer;
 use tokens::BYTE_VALUES;
@@ -29,15 +29,6 @@ const BEFORE_NAMES: usize = 1;
 
 // The tokens of a block without statements: `{` and `}`.
 const EMPTY_BLOCK: usize = 2;
-
-/// What became of a text that was to be printed in the house layout.
-#[derive(Clone, Copy)]
-pub enum LayoutWritten {
-    /// So many bytes of the print were written.
-    Printed(usize),
-    /// Nothing was written: the number of the refusal, and its place.
-    Refused(u8, usize),
-}
 
 // Whether a token is a name, a keyword, `1` or `2`.
 fn is_word(token: u64) -> bool
@@ -172,18 +163,14 @@ fn lay_out(text: &[u8], out: &mut [u8]) -> usize
 
 /// Prints the macro of a text in the house layout into the front of a lent buffer. Nothing is written on a refusal: by 7 to 13 or 16 as the
 /// reader gives them, or by 15 where the print is longer than the buffer or than `LONGEST_PRINT`. The bytes behind the print stay.
-pub fn write_layout(text: &[u8], out: &mut [u8]) -> LayoutWritten
+pub fn write_layout(text: &[u8], out: &mut [u8]) -> Result<usize, Refused>
     ensures { WritesLayout text.now out.old (layout_answer result) out.new }
 {
-    let read = syntax::read(text);
-    let refusal = read.refusal;
-    if refusal != 0 {
-        return LayoutWritten::Refused(refusal, read.place);
-    }
+    syntax::compiled(text)?;
     // the print is measured before a byte of it is written
     let size = lay_out(text, &mut []);
     if LONGEST_PRINT < size || out.len() < size {
-        return LayoutWritten::Refused(PRINT_TOO_LONG, 0);
+        return Err(Reason::PrintTooLong.at(0));
     }
-    LayoutWritten::Printed(lay_out(text, out))
+    Ok(lay_out(text, out))
 }

@@ -456,8 +456,8 @@ fn read_rest(text: &[u8], rs: Registers) -> Result<CompiledMacro, Refused>
     read_tests(text, rs, fs)
 }
 
-// Reads a macro.
-fn compiled(text: &[u8]) -> Result<CompiledMacro, Refused>
+/// Reads a macro, or says by which question it is refused and where.
+pub fn compiled(text: &[u8]) -> Result<CompiledMacro, Refused>
     ensures { result ≡ held_answer (read_macro text.now) }
 {
     if LONGEST_TEXT < text.len() {

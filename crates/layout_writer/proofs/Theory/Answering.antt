@@ -12,6 +12,17 @@ use Rattle.grammar.specs.Limits.{longest_text}
 use Rattle.grammar.specs.Grammar.{Macro}
 use Rattle.refusals.specs.Accepted.{Accepted}
 use Rattle.refusals.proofs.Theory.Accepted.{never_both}
+use Rattle.std.specs.Prelude.{Result, Ok, Err}
+use Rattle.letters.specs.Reasons.{number_of}
+use Rattle.letters.specs.declared.reasons.Reason.{Reason}
+use Rattle.letters.specs.declared.reasons.Reason.TheVariants.{TraceTooShort, TraceOddLength, HeaderMalformed, LetterMalformed, TraceTooLong, OutputTooSmall}
+use Rattle.letters.specs.declared.reasons.Reason.TheVariants.{TextTooLong, TokenMalformed, GrammarViolated, DeclarationWrong, UseWrong, NestingTooDeep}
+use Rattle.letters.specs.declared.reasons.Reason.TheVariants.{PointsTooMany, TableTooSmall, PrintTooLong, NoRoomForTests}
+use Rattle.letters.specs.declared.reasons.Refused.{Refused}
+use Rattle.grammar.proofs.Theory.Reading.{read_macro}
+use Rattle.syntax.specs.declared.CompiledMacro.{CompiledMacro}
+use Rattle.syntax.specs.Answer.{no_macro, held_answer}
+use Rattle.syntax.proofs.Theory.Reads.{reads, numbered_macro, numbered_refusal}
 use Rattle.syntax.specs.Reads.{Reads}
 use Rattle.syntax.specs.declared.MacroRead.{MacroRead}
 use Rattle.layout_theory.specs.Layout.{house_layout, longest_print}
@@ -65,3 +76,34 @@ module _ (s entry : List ℕ) (read : MacroRead) (R : Reads s read) where
               let print = house_layout m in
               (P.print m A).bytes ∙ stored_between entry 0 print (omega (arith, measured m A))
               ∙ ap (λ n. print ++ drop n entry) (let e : 0 + length print ≡ length print = omega arith in e)
+
+-- ---- the same of the Result that reading gives
+
+module _ (s entry : List ℕ) (r : Result CompiledMacro Refused) (e : r ≡ held_answer (read_macro s)) where
+  real_reason : (d : Reason) → number_of d ≡ 0 → ⊥
+  real_reason TraceTooShort z = omega arith
+  real_reason TraceOddLength z = omega arith
+  real_reason HeaderMalformed z = omega arith
+  real_reason LetterMalformed z = omega arith
+  real_reason TraceTooLong z = omega arith
+  real_reason OutputTooSmall z = omega arith
+  real_reason TextTooLong z = omega arith
+  real_reason TokenMalformed z = omega arith
+  real_reason GrammarViolated z = omega arith
+  real_reason DeclarationWrong z = omega arith
+  real_reason UseWrong z = omega arith
+  real_reason NestingTooDeep z = omega arith
+  real_reason PointsTooMany z = omega arith
+  real_reason TableTooSmall z = omega arith
+  real_reason PrintTooLong z = omega arith
+  real_reason NoRoomForTests z = omega arith
+
+  pub refusal_passed : {d : Refused} → r ≡ Err d → WritesLayout s entry (refused (number_of d.reason) d.place) entry
+  refusal_passed {d} h =
+      refusal_answered s entry _ (reads s _ (numbered_refusal s e h (number_of d.reason) refl no_macro refl)) (real_reason d.reason)
+
+  abbrev read_as : CompiledMacro → MacroRead
+  read_as p = record { refusal = 0; place = 0; program = p }
+
+  pub macro_read : {p : CompiledMacro} → r ≡ Ok p → Reads s (read_as p)
+  macro_read {p} h = reads s (read_as p) (numbered_macro s e h)
