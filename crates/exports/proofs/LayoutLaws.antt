@@ -5,25 +5,26 @@ use mathlib.Core.List.{List, [], ◌∷◌, ◌++◌}
 use lib.ListN.{length, drop}
 use Rattle.layout_theory.specs.Writing.{WritesLayout}
 use Rattle.layout_writer.specs.Answer.{layout_answer}
-use Rattle.layout_writer.specs.declared.LayoutWritten.{LayoutWritten}
-use Rattle.layout_writer.specs.declared.LayoutWritten.TheVariants as written
+use Rattle.std.specs.Prelude.{Result, Ok, Err}
+use Rattle.letters.specs.Reasons.{number_of}
+use Rattle.letters.specs.declared.reasons.Refused.{Refused}
 use Rattle.exports.specs.LayoutCalls.{layout_count, layout_numbers, LaysOutMacro}
 use Rattle.exports.proofs.Laws.{too_short}
 
-pub numbers_printed : (w : LayoutWritten) (bytes : ℕ) → w ≡ written.Printed bytes → 0 ∷ 0 ∷ bytes ∷ [] ≡ layout_numbers (layout_answer w)
+pub numbers_printed : (w : Result ℕ Refused) (bytes : ℕ) → w ≡ Ok bytes → 0 ∷ 0 ∷ bytes ∷ [] ≡ layout_numbers (layout_answer w)
 unfolding layout_numbers
 numbers_printed w bytes e = rw e
 
-pub numbers_unprinted : (w : LayoutWritten) (number place : ℕ) → w ≡ written.Refused number place
-    → number ∷ place ∷ 0 ∷ [] ≡ layout_numbers (layout_answer w)
+pub numbers_unprinted : (w : Result ℕ Refused) (r : Refused) (number : ℕ) → number ≡ number_of r.reason → w ≡ Err r
+    → number ∷ r.place ∷ 0 ∷ [] ≡ layout_numbers (layout_answer w)
 unfolding layout_numbers
-numbers_unprinted w number place e = rw e
+numbers_unprinted w r number f e = rw (f, e)
 
 module _ (text out answer : List ℕ) where
   pub layout_short : length answer < layout_count → LaysOutMacro text out answer out answer
   layout_short s = record { short = λ _. (refl, refl); laid = λ room. absurd (too_short s room) }
 
-  pub layout_stored : (out' stored answer' : List ℕ) (w : LayoutWritten) → WritesLayout text out (layout_answer w) out'
+  pub layout_stored : (out' stored answer' : List ℕ) (w : Result ℕ Refused) → WritesLayout text out (layout_answer w) out'
       → stored ≡ layout_numbers (layout_answer w) → length stored ≡ layout_count → layout_count ≤ length answer → answer' ≡ stored ++ drop (length stored) answer
       → LaysOutMacro text out answer out' answer'
   layout_stored out' stored answer' w d same full room e = record {

@@ -4,18 +4,18 @@ ghost use Rattle.layout_writer.specs.Answer.{layout_answer};
 ghost use Rattle.exports.specs.LayoutCalls.{layout_numbers, LaysOutMacro};
 
 use super::store;
-use layout_writer::LayoutWritten;
+use letters::reasons::Refused;
 
 // How many numbers the call answers.
 const LAYOUT_NUMBERS: usize = 3;
 
 // The numbers of what printing a macro gives.
-fn layout_numbers(written: LayoutWritten) -> [u64; LAYOUT_NUMBERS]
+fn layout_numbers(written: Result<usize, Refused>) -> [u64; LAYOUT_NUMBERS]
     ensures { result ≡ layout_numbers (layout_answer written) }
 {
     match written {
-        LayoutWritten::Printed(bytes) => [0, 0, bytes as u64],
-        LayoutWritten::Refused(number, place) => [number as u64, place as u64, 0],
+        Ok(bytes) => [0, 0, bytes as u64],
+        Err(refused) => [u64::from(u8::from(refused.reason)), refused.place, 0],
     }
 }
 

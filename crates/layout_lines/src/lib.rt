@@ -7,7 +7,7 @@ ghost use Rattle.layout_lines.specs.Prints.{most_layout_line_bytes, PrintsLayout
 ghost use Rattle.layout_lines.specs.Answered.{AnswersLayoutInput};
 
 use files::{Input, Source, Unread};
-use layout_writer::{LONGEST_PRINT, LayoutWritten};
+use layout_writer::LONGEST_PRINT;
 use std::io::Read;
 use syntax::LONGEST_TEXT;
 
@@ -34,8 +34,8 @@ pub fn write_lines(text: &[u8], lines: &mut [u8]) -> usize
         return 0;
     }
     match layout_writer::write_layout(text, lines) {
-        LayoutWritten::Printed(n) => n,
-        LayoutWritten::Refused(number, place) => report::write_refused(number, place as u64, lines),
+        Ok(n) => n,
+        Err(refused) => report::write_refused(refused.reason.into(), refused.place, lines),
     }
 }
 

@@ -93,33 +93,3 @@ impl<'a> Writer<'a> {
         }
     }
 }
-
-/// Appends a byte at `at`, and answers the place behind it.
-pub fn put_byte(out: &mut [u8], at: usize, byte: u8) -> usize
-    requires { PlaceInRange at (byte ∷ []) }
-    ensures { Appended out.old at (byte ∷ []) out.new result }
-{
-    let mut writer = Writer { out, at };
-    writer.put_byte(byte);
-    writer.at
-}
-
-/// Appends a name, or another token, that is held as the number of its bytes.
-pub fn put_name(out: &mut [u8], at: usize, name: u64) -> usize
-    requires { PlaceInRange at (name_text name) }
-    ensures { Appended out.old at (name_text name) out.new result }
-{
-    let mut writer = Writer { out, at };
-    writer.put_name(name);
-    writer.at
-}
-
-/// Appends a template with its fields.
-pub fn put_line(out: &mut [u8], at: usize, template: &[u8], fields: [u64; FIELDS]) -> usize
-    requires { PlaceInRange at (filled_in template.now fields) }
-    ensures { Appended out.old at (filled_in template.now fields) out.new result }
-{
-    let mut writer = Writer { out, at };
-    writer.put_line(template, fields);
-    writer.at
-}

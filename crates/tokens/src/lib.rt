@@ -172,13 +172,6 @@ fn is_mark(b: u8) -> bool
     b == b':' || is_negation(b)
 }
 
-/// A byte as a number of 64 bits.
-pub fn wide(byte: u8) -> u64
-    ensures { (result ≡ byte) × (result < 256) }
-{
-    byte as u64
-}
-
 // The first place at or after `from` that is no blank and in no comment.
 fn skip_gap(text: &[u8], from: usize) -> usize
     ensures { result ≡ from + gap false (drop from text.now) }

@@ -27,8 +27,8 @@ use Rattle.report.proofs.Theory.Bound.{refused_few}
 use Rattle.layout_theory.specs.Layout.{house_layout, longest_print}
 use Rattle.layout_theory.specs.Writing.{LayoutAnswer, WritesLayout}
 use Rattle.layout_theory.proofs.Theory.Settled.{WayWritten, passing, standing, way_written, not_printed, refused_kept, printed_is}
-use Rattle.layout_writer.specs.declared.LayoutWritten.{LayoutWritten}
-use Rattle.layout_writer.specs.declared.LayoutWritten.TheVariants.{Printed, Refused}
+use Rattle.std.specs.Prelude.{Result, Ok}
+use Rattle.letters.specs.declared.reasons.Refused.{Refused}
 use Rattle.layout_writer.specs.Answer.{layout_answer}
 use Rattle.layout_lines.specs.Prints.{print_lines, SaysLayout, most_layout_line_bytes, PrintsLayoutLines}
 
@@ -125,7 +125,7 @@ module _ (text : List ℕ) where
         let t = le-leb most_layout_line_bytes (length entry) room in
         record { lines = lines; says = x.says; few = x.few; given = rw t e; bytes = rw t f }
 
-    module _ (answer : LayoutWritten) (n : ℕ) (is : answer ≡ Printed n) (exit : List ℕ) (wrote : WritesLayout text entry (layout_answer answer) exit) where
+    module _ (answer : Result ℕ Refused) (n : ℕ) (is : answer ≡ Ok n) (exit : List ℕ) (wrote : WritesLayout text entry (layout_answer answer) exit) where
       pub print_printed : PrintsLayoutLines text entry n exit
       print_printed =
           let x = printed_is wrote n (ap layout_answer is) in
@@ -133,11 +133,8 @@ module _ (text : List ℕ) where
           let s : Said text print = rw (le-leb (length print) longest_print (omega arith)) at (print_said x.macro x.accepted) in
           prints print n exit s x.size (x.stands ∙ ap (λ k. print ++ drop k entry) x.size)
 
-    module _ (answer : LayoutWritten) (number place : ℕ) (is : answer ≡ Refused number place) (middle : List ℕ)
+    module _ (answer : Result ℕ Refused) (number place : ℕ) (told : layout_answer answer ≡ LayoutAnswer.refused number place) (middle : List ℕ)
         (wrote : WritesLayout text entry (layout_answer answer) middle) where
-      told : layout_answer answer ≡ LayoutAnswer.refused number place
-      told = ap layout_answer is
-
       -- that line is the text's
       line_said : WayWritten text entry (layout_answer answer) middle → Said text (refused_line number place)
       line_said (WayWritten.unread n p r e _) = same_line n p (sym e ∙ told) (refusal_said n p r)
