@@ -6,4 +6,4 @@ pub returns-in-Ok : goal.returns-in-Ok
 returns-in-Ok c = numbers_printed _ _ c.in-Ok.is
 
 pub returns-in-Err : goal.returns-in-Err
-returns-in-Err c = numbers_unprinted _ _ _ (c.from-2.ensures ∙ c.from.ensures) c.in-Err.is
+returns-in-Err c = numbers_unprinted _ _ _ (c.from-in-Err.ensures ∙ c.from.ensures) c.in-Err.is
