@@ -18,5 +18,5 @@ returns-clause-appended c =
     let m = c.unwrap_or-monitor.ensures ∙ ap (result_unwrap_or c.start.result) c.idle.ensures.value ∙ monitor_of c.start.result in
     let fresh = rw (c.new-writer.ensures.bytes, c.new-writer.ensures.place) at c.put_fresh_line.ensures.appended in
     let lines : Appended c.args.out.now 0 (trace_lines c.args.bytes.now) c.put_judged_lines.new.writer.out.now c.put_judged_lines.new.writer.at =
-        trace_printed c.args.bytes.now _ c.word.ensures _ c.start.ensures.computed (rw m at fresh) (rw m at c.put_judged_lines.ensures.appended) in
+    trace_printed c.args.bytes.now _ c.word.ensures _ c.start.ensures.computed (rw m at fresh) (rw m at c.put_judged_lines.ensures.appended) in
     search rules

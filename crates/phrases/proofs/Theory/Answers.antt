@@ -124,7 +124,10 @@ module _ (l : List ℕ) (t : Token) where
         (λ n. let g = rw n at i in by_test (reading.is_declared t.key l)
         (λ d. let k = rw d at g in absurd (cc))
         λ d. let k = rw d at g in
-        let h : ltb (reading.index_of t.key l) to ≡ false = le-ltb (reading.index_of t.key l) to (omega (arith, ltb-false (reading.index_of t.key l)
-            (length l) d)) in
+        let h : ltb (reading.index_of t.key l) to ≡ false = le-ltb (reading.index_of t.key l) to (omega (
+          arith,
+          ltb-false (reading.index_of t.key l)
+              (length l) d,
+        )) in
         rw (n, h) (by_test (leb from (reading.index_of t.key l)) (λ b. rw b (cc)) λ b. rw b (cc)))
         λ n. let g = rw n at i in rw n (cc)

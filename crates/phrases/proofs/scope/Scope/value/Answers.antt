@@ -11,7 +11,7 @@ unfolding right_hand_side
 returns-then-u-eq-LPAREN c =
     let a = c.args.self.now in
     let e : c.next-u.result ≡ token_at a.text.now (token_at a.text.now c.args.at).end = c.next-u.ensures ∙ ap (λ t. token_at a.text.now t.end)
-        c.next-t.ensures in
+    c.next-t.ensures in
     rw (← e, eq-eqb _ _ c.if-u-eq-LPAREN.true)
     (value_applied a.text.now a.registers.now a.functions.now a.arities.now a.first_test c.args.x c.args.at c.call.ensures)
 
