@@ -214,6 +214,7 @@ fn explore(
     let mut w = Window::fresh(1);
     let mut count: usize = 1;
     let mut number: usize = 0;
+    // a `while`, since the bound grows as pairs are listed
     while number < 2 * count {
         w = current(table, w, number);
         let point = points[table::point_at(table, number / 2) % POINTS];

@@ -19,6 +19,7 @@ fn layout_numbers(written: Result<usize, Refused>) -> [u64; LAYOUT_NUMBERS]
     }
 }
 
+// The body is that of the other calls: what C calls is a function with a name of its own.
 /// Prints a macro in the house layout: the refusal and its place, 0 for none; the bytes of the print, which stands at the front of the output,
 /// 0 on a refusal, which leaves the output as lent.
 #[unsafe(no_mangle)]

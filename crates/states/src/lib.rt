@@ -100,6 +100,7 @@ fn head(kind: u8, m: Monitor) -> [u8; HEAD_SIZE]
     ]
 }
 
+// The parts stay parameters: what the proof searches for them is found behind few facts only (docs/PROVING.md).
 // Lays the parts of a monitor over the state.
 fn put_parts(
     head: [u8; HEAD_SIZE],
@@ -209,6 +210,7 @@ fn phase_of(code: u8) -> Phase
     Phase::Odd
 }
 
+// Here and below an answer is taken apart number by number: each stands at a place of its own in a state that C keeps.
 fn verdict_code(verdict: RunAnswer) -> u8
     ensures { result ≡ run_answer_code verdict }
 {
