@@ -12,6 +12,25 @@ use Rattle.blocks.specs.declared.PointKind.TheVariants.{Step, Check, Fork}
 use Rattle.blocks.specs.declared.PointEntry.{PointEntry}
 use Rattle.blocks.specs.declared.points.Points.{Points}
 
+-- The kinds of a point, as numbers: an assignment or an assume; an assert; an if or a while.
+abbrev pub step_kind : ℕ
+step_kind = 0
+
+abbrev pub check_kind : ℕ
+check_kind = 1
+
+abbrev pub fork_kind : ℕ
+fork_kind = 2
+
+abbrev pub kind_number : PointKind → ℕ
+kind_number Step = step_kind
+kind_number Check = check_kind
+kind_number Fork = fork_kind
+
+-- the kind that a number stands for: what is no step and no check forks
+abbrev pub kind_of : ℕ → PointKind
+kind_of n = pick (eqb n step_kind) (λ _. Step) λ _. pick (eqb n check_kind) (λ _. Check) λ _. Fork
+
 abbrev pub point : PointKind → Letter → ℕ → ℕ → PointEntry
 point k l a b = record { kind = k; letter = l; first = a; second = b }
 

@@ -2,7 +2,7 @@
 #![tactic(auto)]
 
 ghost use Rattle.std.specs.Prelude.{◌≡◌};
-ghost use Rattle.blocks.specs.Held.{unused_point, backpatched, redirected, progress, outcome};
+ghost use Rattle.blocks.specs.Held.{kind_of, kind_number, unused_point, backpatched, redirected, progress, outcome};
 ghost use Rattle.blocks.specs.Outcome.{begins, PlainRead, BlockRead, StatementRead, BracesRead, ElseRead, ConditionalRead, RepeatRead};
 
 use letters::Letter;
@@ -23,6 +23,40 @@ pub enum PointKind {
     Check,
     /// It goes on by its test: an if or a while.
     Fork,
+}
+
+/// The number of the kind of a point that is an assignment or an assume.
+pub const STEP: u8 = 0;
+
+/// The number of the kind of a point that is an assert.
+pub const CHECK: u8 = 1;
+
+/// The number of the kind of a point that is an if or a while.
+pub const FORK: u8 = 2;
+
+impl From<PointKind> for u8 {
+    ghost from_gives = { λ k n. n ≡ kind_number k };
+
+    fn from(kind: PointKind) -> u8 {
+        match kind {
+            PointKind::Step => STEP,
+            PointKind::Check => CHECK,
+            PointKind::Fork => FORK,
+        }
+    }
+}
+
+impl From<u8> for PointKind {
+    ghost from_gives = { λ n k. k ≡ kind_of n };
+
+    /// The kind that a number stands for: an if or a while where it is no other's.
+    fn from(number: u8) -> PointKind {
+        match number {
+            STEP => PointKind::Step,
+            CHECK => PointKind::Check,
+            _ => PointKind::Fork,
+        }
+    }
 }
 
 /// A point of a macro.

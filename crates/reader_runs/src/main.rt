@@ -1,7 +1,7 @@
 // Reads each text that an argument names, and prints what reading it gives: the refusal and its place, or the counts and the points.
 #![tactic(auto)]
 
-use blocks::{POINT_SPACE, PointEntry, PointKind};
+use blocks::{POINT_SPACE, PointEntry};
 use files::{Source, Unread};
 use letters::Letter;
 use std::fs::File;
@@ -52,12 +52,7 @@ fn print_letter(rt: &HostRuntime, letter: Letter) {
 
 fn print_point(rt: &HostRuntime, point: PointEntry) {
     files::print(rt, b" |");
-    let kind = match point.kind {
-        PointKind::Step => 0,
-        PointKind::Check => 1,
-        PointKind::Fork => 2,
-    };
-    number(rt, kind);
+    number(rt, u64::from(u8::from(point.kind)));
     let letter = point.letter;
     print_letter(rt, letter);
     number(rt, point.first as u64);
