@@ -169,7 +169,7 @@ pub fn print(rt: &HostRuntime, bytes: &[u8]) {
     }
 }
 
-/// Writes a name, what stands between and the lines to standard output, as `print` writes bytes.
+/// Writes a name, what stands between and the lines to standard output, as `print` writes bytes. It only prints, so it ensures nothing either.
 pub fn print_behind(rt: &HostRuntime, name: &[u8], between: &[u8], lines: &[u8]) {
     print(rt, name);
     print(rt, between);
@@ -208,6 +208,7 @@ fn open(rt: &HostRuntime, name: &[u8]) -> Option<File> {
 }
 
 /// Opens the file that argument i names for reading and puts its name into the front of a buffer, or says on standard error why it could not.
+/// Where it could not, it answers no size and says nothing of the buffer: `IsPrefixLen 0` holds of any.
 pub fn open_argument(rt: &HostRuntime, i: usize, name: &mut [u8]) -> Option<Opened>
     ensures { IfSome result (λ opened. IsPrefixLen opened.size name.new) }
 {
@@ -239,6 +240,7 @@ pub fn argument_count(rt: &HostRuntime) -> usize {
 }
 
 /// Opens the file that each argument names, one after the other, and hands it over with its name; or says on standard error why it could not.
+/// Of the closure it asks what std asks of one: that it may be called, and again after each call.
 pub fn open_arguments<F: FnMut(File, &[u8])>(rt: &HostRuntime, mut take: F)
     requires { F.IsAlwaysCallable take }
 {
