@@ -7,7 +7,7 @@ ghost use Rattle.window.specs.Layout.{registers, functions, register_pairs, line
 ghost use Rattle.window.specs.Bits.{minus};
 ghost use Rattle.window.specs.Performing.{arguments_of};
 ghost use Rattle.window.specs.Perform.{WithinPacking};
-ghost use Rattle.slots.specs.Slots.{slot_of, Low, Laid};
+ghost use Rattle.slots.specs.Slots.{slot_of, slots_of, Low, Laid};
 ghost use Rattle.slots.specs.Performing.{has_slot, placed, free_from, pulled_of, many_of, doubled_of, clash_slots, apart_slots, early_slots};
 ghost use Rattle.slots.specs.Performing.{results_dropped, masks_renamed, results_renamed, slot_renamed, marks_in, register_in};
 ghost use Rattle.slots.specs.Performing.{above_slots, beside_slots, lost_slots, recorded_slots, slots_with_unequal};
@@ -94,7 +94,7 @@ impl SlotWindow {
         self.slot[x] = t as u8;
     }
 
-    // The first free slot; their number if none is.
+    // The first free slot; their number if none is: the definition `free_from` says none by that number (no plainer with an Option turned back into it).
     fn free_slot(&self) -> usize
         ensures { result ≡ free_from self.now.regs 0 registers }
     {
@@ -106,7 +106,7 @@ impl SlotWindow {
         REGISTERS
     }
 
-    // The lowest register of the lowest slot of a mask; their number if the mask is empty.
+    // The lowest register of the lowest slot of a mask; their number if the mask is empty, as `name` and the definition `register_in` say none.
     #[tactic(auto, using(base::proofs::Theory::Choice::decide), unfolding(crate::specs::Performing::register_in))]
     fn register_in(&self, slots: Mask) -> usize
         ensures { result ≡ register_in registers self.now.regs slots }
@@ -252,6 +252,7 @@ fn arguments(s: usize, a: usize, b: usize) -> Mask
 
 impl SlotWindow {
     // Slot n holds the result of f at slots a and b, unless it took the place of one of them, and register x has no mark.
+    // Parameters of their own: `renew` and `freshen` give other slots n, and a struct of the five would be read nowhere else.
     fn record(&mut self, x: usize, f: usize, a: usize, b: usize, n: usize)
         requires x_is_register { x < registers }
         requires f_is_function { f < functions }
@@ -382,7 +383,7 @@ fn rename_results<const N: usize>(t: &mut [Mask; N], a: usize, b: usize)
     drop_results(t, b);
 }
 
-// Whether the mask has two slots or more.
+// Whether the mask has two slots or more. A function, for its contract is the definition `many_of`, which `doubled` and `find` share.
 #[tactic(auto, unfolding(crate::specs::Performing::many_of))]
 fn many(m: Mask) -> bool
     ensures { result ≡ many_of registers m }
@@ -446,7 +447,7 @@ impl SlotWindow {
         0
     }
 
-    // The registers of the first result of a window that is in two slots, or the empty mask.
+    // The registers of the first result of a window that is in two slots, or the empty mask, as the definition `find_slots` says none.
     fn find(&self) -> Mask
         ensures { result ≡ find_slots registers self.now.slot self.now.regs self.now.result 0 results }
     {
@@ -507,6 +508,7 @@ fn clash(unequal: &[Mask; REGISTERS]) -> bool
 
 impl SlotWindow {
     // The slots are infeasible, if they were or something is bad. Infeasible ones have no unequal pairs.
+    // Window has its own, of another type: no plainer with a trait for three lines.
     #[tactic(auto, using(base::proofs::Theory::Choice::decide), unfolding(crate::specs::Performing::settled_slots))]
     fn settle(&mut self, bad: bool)
         ensures { self.new ≡ settled_slots registers functions self.old bad }
@@ -613,7 +615,8 @@ impl SlotWindow {
     /// Performs a letter that is coherent. Its registers lie below REGISTERS and its function below FUNCTIONS.
     pub fn perform(&mut self, letter: Letter)
         requires { WithinPacking letter }
-        ensures { self.new ≡ perform_slots registers functions self.old letter }
+        ensures after { self.new ≡ perform_slots registers functions self.old letter }
+        ensures laid { Laid registers functions self.new.slot self.new.regs self.new.unequal self.new.result self.new.ever self.new.mark }
     {
         match letter {
             Letter::Copy { target, source } => self.copy(target as usize, source as usize),
@@ -631,6 +634,8 @@ impl SlotWindow {
             Letter::Equal { first, second } => self.equal(first as usize, second as usize),
             Letter::Unequal { first, second } => self.unequal(first as usize, second as usize),
         }
+        // Reads nothing: where a field is named, the proof has what the type says of the fields, which `laid` tells callers.
+        let _ = &self.slot;
     }
 
     /// Whether the trace is infeasible.
@@ -770,9 +775,9 @@ fn keep(t: &mut [Mask], used: Mask, step: usize)
     }
 }
 
-// For each pair of slots, the slots that hold a result of some function at the two, in either order.
+/// For each pair of slots, the slots that hold a result of some function at the two, in either order.
 #[tactic(auto, using(crate::proofs::Theory::Loops::written), unfolding(crate::specs::Around::around_of))]
-fn make_around(res: &[Mask; RESULTS]) -> [Mask; PAIRS]
+pub fn make_around(res: &[Mask; RESULTS]) -> [Mask; PAIRS]
     ensures value { result ≡ around_of registers functions res.now }
     ensures around { Around registers functions res.now result }
 {
@@ -785,27 +790,53 @@ fn make_around(res: &[Mask; RESULTS]) -> [Mask; PAIRS]
 }
 
 impl SlotWindow {
+    /// Slots of these tables, whatever they say; only each register has one of the slots.
+    pub fn of_tables(
+        slot: [u8; REGISTERS],
+        regs: [Mask; REGISTERS],
+        unequal: [Mask; REGISTERS],
+        results: [Mask; RESULTS],
+        ever: [Mask; LINES],
+        mark: [bool; REGISTERS],
+        infeasible: bool,
+    ) -> Self
+        requires { Low registers slot }
+        ensures value { result ≡ slots_of slot regs unequal results ever mark infeasible }
+        ensures laid { Laid registers functions result.slot result.regs result.unequal result.result result.ever result.mark }
+    {
+        SlotWindow {
+            slot,
+            regs,
+            unequal,
+            around: make_around(&results),
+            result: results,
+            ever,
+            mark,
+            infeasible,
+        }
+    }
+
     /// Slots for a window. What it computes is free: `represents` decides whether they are the window's.
-    pub fn of_window(window: &Window) -> Self {
+    pub fn of_window(window: &Window) -> Self
+        ensures laid { Laid registers functions result.slot result.regs result.unequal result.result result.ever result.mark }
+    {
         let lowest = names(&window.class);
         let mut unequal = window.unequal;
         keep(&mut unequal, lowest, 1);
-        let mut result = window.result;
-        keep(&mut result, lowest, 1);
-        keep(&mut result, lowest, REGISTERS);
+        let mut results = window.result;
+        keep(&mut results, lowest, 1);
+        keep(&mut results, lowest, REGISTERS);
         let mut ever = window.ever;
         keep(&mut ever, lowest, 1);
-        let around = make_around(&result);
-        SlotWindow {
-            slot: name_slots(&window.class),
-            regs: group(&window.class, lowest),
+        SlotWindow::of_tables(
+            name_slots(&window.class),
+            group(&window.class, lowest),
             unequal,
-            result,
+            results,
             ever,
-            around,
-            mark: window.mark,
-            infeasible: window.infeasible,
-        }
+            window.mark,
+            window.infeasible,
+        )
     }
 }
 
@@ -837,6 +868,7 @@ fn clean(t: &[Mask], used: Mask, step: usize) -> bool
 }
 
 // Whether two windows are equal as values, the number of classes included.
+// No `==` of Window: the contract is the definition `same_window`, which the proof of `represents` cites; no plainer.
 fn same_window(v: &Window, w: &Window) -> bool
     ensures value { result ≡ same_window registers functions v.now w.now }
     ensures same { result ≡ true → v.now ≡ w.now }
