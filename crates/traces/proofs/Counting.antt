@@ -106,7 +106,8 @@ module _ (too_many : ℕ → Bool) (s : List ℕ) where
     unfolding reading_where
     begun_over t = rw (← e, t)
 
-    pub begun_letters : too_many (letter_count first_edition s) ≡ false → counted (letters_of first_edition h s) ≡ counted (reading_where too_many first_edition s)
+    pub begun_letters : too_many (letter_count first_edition s) ≡ false
+        → counted (letters_of first_edition h s) ≡ counted (reading_where too_many first_edition s)
     unfolding reading_where
     begun_letters t = rw (← e, t)
 

@@ -10,8 +10,8 @@ use Rattle.traces.specs.ReadingParts.{reading_within}
 use Rattle.traces.specs.Writing.{plain_test, plain_letter, unpack_letter, unpacked_parts, unpacking}
 
 a_trace : reading first_edition (0x32 ∷ 0x00 ∷ 0x44 ∷ 0x40 ∷ 0x80 ∷ 0x08 ∷ []) ≡ trace unary (Apply 2 0 1 1 ∷ Equal 0 1 ∷ [])
-unfolding reading_where beginning letters_of letters_from chunks decode_header named_header header_word decode_letter named_letter letter_by header_test fits_test
-    apply_test letter_word
+unfolding reading_where beginning letters_of letters_from chunks decode_header named_header header_word decode_letter named_letter letter_by header_test
+    fits_test apply_test letter_word
 a_trace = refl
 
 header_alone : reading first_edition (0x32 ∷ 0x00 ∷ []) ≡ trace unary []
@@ -37,8 +37,8 @@ bad_header = refl
 
 -- the second letter has its second argument's field in use
 bad_letter : reading first_edition (0x32 ∷ 0x00 ∷ 0x44 ∷ 0x40 ∷ 0x44 ∷ 0x48 ∷ []) ≡ TraceReading.refused 4 2
-unfolding reading_where beginning letters_of letters_from chunks decode_header named_header header_word decode_letter named_letter letter_by header_test fits_test
-    apply_test letter_word
+unfolding reading_where beginning letters_of letters_from chunks decode_header named_header header_word decode_letter named_letter letter_by header_test
+    fits_test apply_test letter_word
 bad_letter = refl
 
 -- 5 comes before 4

@@ -54,7 +54,8 @@ module _ {A : Type 0} (decode : A → Answer Letter) (h : Header) where
   decoded_letters n (x ∷ codes) [] d = absurd d
   decoded_letters n (x ∷ codes) (l ∷ ls) d = rw (first_letter, d.0, decoded_letters (n + 1) codes ls d.1)
 
-  pub letters_decoded : (n : ℕ) (codes : List A) (g : Header) (ls : List Letter) → letters_from decode h n codes ≡ trace g ls → (g ≡ h) × Decoded decode codes ls
+  pub letters_decoded : (n : ℕ) (codes : List A) (g : Header) (ls : List Letter) → letters_from decode h n codes ≡ trace g ls
+      → (g ≡ h) × Decoded decode codes ls
   unfolding letters_from
   letters_decoded n [] g [] e = (cc, tt)
   letters_decoded n [] g (l ∷ ls) e = let z : ◌≡◌ {A = ℕ} 0 1 = cc in absurd (omega arith)

@@ -27,8 +27,8 @@ use Rattle.semantics.proofs.Theory.Redundant.{tracks_redundant}
 use Rattle.window.specs.Places.{place}
 use Rattle.window.proofs.Theory.Bits.{truth, no_truth, nonempty_is}
 use Rattle.window.specs.Bits.{nonempty}
-use Rattle.window.specs.Performing.{copied_of, equal_of, unequal_of, applied_of, apply_of, WithinLayout, memoizing_of, early_of, judge_in_layout, perform_in_layout}
-use Rattle.window.specs.Performing.{fresh_in_layout}
+use Rattle.window.specs.Performing.{copied_of, equal_of, unequal_of, applied_of, apply_of, WithinLayout, memoizing_of, early_of}
+use Rattle.window.specs.Performing.{judge_in_layout, perform_in_layout, fresh_in_layout}
 use Rattle.window.specs.Viewing.{view, Inside}
 use Rattle.window.proofs.Theory.Laws.{Laws, laws_of, Sound, sound_of}
 use Rattle.window.proofs.Theory.Shape.{shaped_copied, shaped_performed, shaped_fresh}
