@@ -200,7 +200,8 @@ module _ (word : ℕ) (entry answer : List ℕ) where
     refused = λ room. absurd (too_short s room);
   }
 
-  pub step_none : (answer' stored : List ℕ) → 4 ≤ length answer → holds_state monitor_kind monitor_size entry ≡ false → stored ≡ no_state_numbers → length stored ≡ 4
+  pub step_none : (answer' stored : List ℕ) → 4 ≤ length answer → holds_state monitor_kind monitor_size entry ≡ false
+      → stored ≡ no_state_numbers → length stored ≡ 4
       → answer' ≡ stored ++ drop (length stored) answer → StepsMonitor word entry answer entry answer'
   step_none answer' stored room lacks same full e = record {
     short = λ s. absurd (too_short s room);
@@ -342,7 +343,8 @@ module _ (entry answer : List ℕ) where
     beyond = λ bytes t. (answered entry).beyond bytes t.streams;
   }
 
-  pub finish_none : (stored answer' : List ℕ) → 4 ≤ length answer → holds_state stream_kind stream_size entry ≡ false → stored ≡ no_state_numbers → length stored ≡ 4
+  pub finish_none : (stored answer' : List ℕ) → 4 ≤ length answer → holds_state stream_kind stream_size entry ≡ false
+      → stored ≡ no_state_numbers → length stored ≡ 4
       → answer' ≡ stored ++ drop (length stored) answer → FinishesStream entry answer answer'
   finish_none stored answer' room lacks same full e = record {
     short = λ s. absurd (too_short s room);

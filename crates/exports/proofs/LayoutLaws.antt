@@ -25,7 +25,8 @@ module _ (text out answer : List ℕ) where
   layout_short s = record { short = λ _. (refl, refl); laid = λ room. absurd (too_short s room) }
 
   pub layout_stored : (out' stored answer' : List ℕ) (w : Result ℕ Refused) → WritesLayout text out (layout_answer w) out'
-      → stored ≡ layout_numbers (layout_answer w) → length stored ≡ layout_count → layout_count ≤ length answer → answer' ≡ stored ++ drop (length stored) answer
+      → stored ≡ layout_numbers (layout_answer w) → length stored ≡ layout_count → layout_count ≤ length answer
+      → answer' ≡ stored ++ drop (length stored) answer
       → LaysOutMacro text out answer out' answer'
   layout_stored out' stored answer' w d same full room e = record {
     short = λ s. absurd (too_short s room);

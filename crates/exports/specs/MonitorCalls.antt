@@ -102,7 +102,8 @@ pub record StartsMonitor (word : ℕ) (entry answer exit answer' : List ℕ) : T
 pub record StepsMonitor (word : ℕ) (entry answer exit answer' : List ℕ) : Type 0 where
   pub short : length answer < step_count → (exit ≡ entry) × (answer' ≡ answer)
   -- no monitor's state
-  pub none : step_count ≤ length answer → holds_state monitor_kind monitor_size entry ≡ false → (exit ≡ entry) × (answer' ≡ no_state_numbers ++ drop step_count answer)
+  pub none : step_count ≤ length answer → holds_state monitor_kind monitor_size entry ≡ false
+      → (exit ≡ entry) × (answer' ≡ no_state_numbers ++ drop step_count answer)
   pub stepped : step_count ≤ length answer → holds_state monitor_kind monitor_size entry ≡ true
       → (exit ≡ kept_over (advance (monitor_in entry) word) entry) × (answer' ≡ stepped_numbers (advance (monitor_in entry) word) ++ drop step_count answer)
   -- a letter's word: the numbers are those of the monitor in the state afterwards

@@ -5,7 +5,8 @@ use Rattle.exports.proofs.fadzgime_model.Statement.{statement}
 use Rattle.exports.proofs.fadzgime_model.Tie as tie
 
 returns : tie.Need-returns-then-answer-lt-MODEL_NUMBERS
-returns c = (modelled_short _ _ _ c.if-answer-lt-MODEL_NUMBERS.true, (output_short _ _ _ c.if-answer-lt-MODEL_NUMBERS.true, λ room. absurd (too_short c.if-answer-lt-MODEL_NUMBERS.true room)))
+returns c = (modelled_short _ _ _ c.if-answer-lt-MODEL_NUMBERS.true,
+    (output_short _ _ _ c.if-answer-lt-MODEL_NUMBERS.true, λ room. absurd (too_short c.if-answer-lt-MODEL_NUMBERS.true room)))
 
 show_requires : tie.Need-show-shown-requires
 show_requires c κs = search rules
