@@ -12,10 +12,13 @@ ghost use Rattle.grammar.proofs.Theory.Reading.{read_macro};
 ghost use Rattle.phrases.specs.Codes.{plain, read_as};
 ghost use Rattle.blocks.specs.Held.{progress};
 ghost use Rattle.syntax.specs.Answer.{no_macro, held_answer, held_reading, held_registers, held_functions, body_from, tests_from, functions_from};
-ghost use Rattle.syntax.specs.Lists.{NamesPadded};
 ghost use Rattle.syntax.specs.Reads.{Reads};
 ghost use Rattle.syntax.specs.Top.{RegistersPadded, FunctionsPadded, padded_registers, padded_functions, Finishes, headed, arity_flag};
 ghost use Rattle.syntax.specs.Top.{hidden_count, RoomForHidden, spelled_behind};
+
+mod names;
+
+use names::{Entries, Names};
 
 use blocks::{POINT_SPACE, PointEntry, Points};
 use letters::Header;
@@ -118,19 +121,20 @@ struct Declared<'a> {
 }
 
 // Whether no register of this name can be declared any more.
-fn is_register_taken(names: [u64; MOST_REGISTERS], count: usize, k: u64) -> bool
-    requires { NamesPadded most_registers names count }
-    ensures { result ≡ (eqb count most_registers || is_declared k (take count names)) }
+fn is_register_taken(names: &Names<MOST_REGISTERS>, k: u64) -> bool
+    ensures { result ≡ (eqb names.now.count most_registers || is_declared k (take names.now.count names.now.items)) }
 {
-    count == MOST_REGISTERS || phrases::is_known(&names[..count], k)
+    names.is_full() || names.holds(k)
 }
 
 // Behind the last register.
-fn registers_end(names: [u64; MOST_REGISTERS], count: usize, t: Token) -> Result<Registers, Refused>
-    requires { NamesPadded most_registers names count }
-    ensures { result ≡ read_as held_registers (listed_t [] (length (take count names)) (take count names) t) }
+fn registers_end(names: Names<MOST_REGISTERS>, t: Token) -> Result<Registers, Refused>
+    ensures { result
+        ≡ read_as held_registers (listed_t [] (length (take names.count names.items)) (take names.count names.items) t) }
 {
-    if t.key == tokens::SEMICOLON && count != 0 {
+    if t.key == tokens::SEMICOLON && names.count != 0 {
+        let count = names.count;
+        let names = names.items;
         return Ok(Registers {
             at: t.end,
             count,
@@ -144,30 +148,29 @@ fn registers_end(names: [u64; MOST_REGISTERS], count: usize, t: Token) -> Result
 fn read_registers(text: &[u8], from: usize) -> Result<Registers, Refused>
     ensures { result ≡ read_as held_registers (registersAt text.now most_registers [] from) }
 {
-    let mut names = [0u64; MOST_REGISTERS];
-    let mut count: usize = 0;
+    let mut names = Names::<MOST_REGISTERS>::none();
     let mut at = from;
     // a `loop`, since where the next token begins is known only behind this one, and the last one ends the line
     loop {
         let t = tokens::next(text, at);
         if !tokens::is_name(t.key) {
-            return registers_end(names, count, t);
+            return registers_end(names, t);
         }
-        if is_register_taken(names, count, t.key) {
+        if is_register_taken(&names, t.key) {
             return Err(Reason::DeclarationWrong.at(t.start as u64));
         }
-        names[count] = t.key;
-        count += 1;
+        names.push(t.key);
         at = t.end;
     }
 }
 
 // Whether no function of this name can be declared any more.
-fn is_function_taken(regs: &[u64], names: [u64; MOST_FUNCTIONS], count: usize, k: u64) -> bool
-    requires { (length regs.now ≤ most_registers) × NamesPadded most_functions names count }
-    ensures { result ≡ (eqb count most_functions || (is_declared k regs.now || is_declared k (take count names))) }
+fn is_function_taken(regs: &[u64], names: &Names<MOST_FUNCTIONS>, k: u64) -> bool
+    requires { length regs.now ≤ most_registers }
+    ensures { result ≡ (eqb names.now.count most_functions
+        || (is_declared k regs.now || is_declared k (take names.now.count names.now.items))) }
 {
-    count == MOST_FUNCTIONS || phrases::is_known(regs, k) || phrases::is_known(&names[..count], k)
+    names.is_full() || phrases::is_known(regs, k) || names.holds(k)
 }
 
 // `/` and how many arguments, and the place after that.
@@ -186,18 +189,16 @@ fn arity(text: &[u8], at: usize) -> Result<(u8, usize), Refused>
 }
 
 // Behind the last entry of a line, of which entry number `first` was the first.
-fn functions_end(
-    names: [u64; MOST_FUNCTIONS],
-    arities: [u8; MOST_FUNCTIONS],
-    count: usize,
-    first: usize,
-    t: Token,
-) -> Result<Functions, Refused>
-    requires { NamesPadded most_functions names count × NamesPadded most_functions arities count × (first ≤ count) }
+fn functions_end(entries: Entries, first: usize, t: Token) -> Result<Functions, Refused>
+    requires { first ≤ entries.names.count }
     ensures { result
-        ≡ read_as held_functions (listed_t [] (length (take count names) - first) (take count names, take count arities) t) }
+        ≡ read_as held_functions (listed_t [] (length (take entries.names.count entries.names.items) - first)
+        (take entries.names.count entries.names.items, take entries.names.count entries.arities) t) }
 {
-    if t.key == tokens::SEMICOLON && count != first {
+    if t.key == tokens::SEMICOLON && entries.names.count != first {
+        let count = entries.names.count;
+        let names = entries.names.items;
+        let arities = entries.arities;
         return Ok(Functions {
             at: t.end,
             count,
@@ -214,23 +215,19 @@ fn read_line(text: &[u8], regs: &[u64], known: Functions, from: usize) -> Result
     ensures { result
         ≡ read_as held_functions (line_from text.now regs.now (take known.count known.names) (take known.count known.arities) from) }
 {
-    let mut names = known.names;
-    let mut arities = known.arities;
-    let mut count: usize = known.count;
+    let mut entries = Entries::known(known.names, known.arities, known.count);
     let mut at = from;
     // a `loop`, as for registers
     loop {
         let t = tokens::next(text, at);
         if !tokens::is_name(t.key) {
-            return functions_end(names, arities, count, known.count, t);
+            return functions_end(entries, known.count, t);
         }
-        if is_function_taken(regs, names, count, t.key) {
+        if is_function_taken(regs, &entries.names, t.key) {
             return Err(Reason::DeclarationWrong.at(t.start as u64));
         }
         let (n, e) = arity(text, t.end)?;
-        names[count] = t.key;
-        arities[count] = n;
-        count += 1;
+        entries.push(t.key, n);
         at = e;
     }
 }

@@ -92,12 +92,12 @@ RegistersLeft s from names count at = register_names s most_registers [] from �
 
 -- the registers that are read so far
 pub record RegistersSoFar (s : List ℕ) (from : ℕ) (names : List ℕ) (count at : ℕ) : Type 0 where
-  pub names_padded : NamesPadded most_registers names count
   pub left : RegistersLeft s from names count at
 
 -- behind them stands a name; whether it is taken
 pub record NameOfRegister (s : List ℕ) (from : ℕ) (names : List ℕ) (count : ℕ) (t : Token) (taken : Bool) : Type 0 where
   pub at : ℕ
+  pub names_padded : NamesPadded most_registers names count
   pub so_far : RegistersSoFar s from names count at
   pub token : t ≡ token_at s at
   pub name : is_name t.key ≡ true
@@ -114,14 +114,14 @@ module _ {s : List ℕ} {from : ℕ} {names : List ℕ} {count at : ℕ} (S : Re
       go zero = rw (← e, ← i, h)
       go (suc room) = rw (← e, ← i, h)
 
-pub register_named : {s : List ℕ} {from : ℕ} {names : List ℕ} {count at : ℕ} {t : Token} {b taken : Bool} → RegistersSoFar s from names count at
-    → t ≡ token_at s at → b ≡ is_name t.key → b ≡ true → taken ≡ (eqb count most_registers || is_declared t.key (take count names))
+pub register_named : {s : List ℕ} {from : ℕ} {names : List ℕ} {count at : ℕ} {t : Token} {b taken : Bool}
+    → NamesPadded most_registers names count → RegistersSoFar s from names count at → t ≡ token_at s at → b ≡ is_name t.key → b ≡ true → taken ≡ (eqb count most_registers || is_declared t.key (take count names))
     → NameOfRegister s from names count t taken
-register_named {at = at} S e i h w = record { at = at; so_far = S; token = e; name = sym i ∙ h; tells = w }
+register_named {at = at} K S e i h w = record { at = at; names_padded = K; so_far = S; token = e; name = sym i ∙ h; tells = w }
 
 module _ {s : List ℕ} {from : ℕ} {names : List ℕ} {count : ℕ} {t : Token} {taken : Bool} (N : NameOfRegister s from names count t taken) where
   abbrev K : NamesPadded most_registers names count
-  K = N.so_far.names_padded
+  K = N.names_padded
 
   taken_register : taken ≡ true → register_names s most_registers [] from ≡ Got.refused declaration_wrong t.start
   unfolding register_names
@@ -152,7 +152,6 @@ module _ {s : List ℕ} {from : ℕ} {names : List ℕ} {count : ℕ} {t : Token
       sym (ap (λ b. b || is_declared t.key (take count names)) (ne_eqb count most_registers λ q. omega arith)) ∙ sym N.tells ∙ h in (
         l,
         record {
-          names_padded = kept_more most_registers names count t.key K l;
           left = N.so_far.left ∙ ap (λ m. register_names s m (take count names) N.at) z
               ∙ rw (← N.token, N.name, w) (ap (λ l. register_names s (most_registers - (count + 1)) l t.end)
               (sym (kept_take most_registers names count t.key K l)));
@@ -172,8 +171,6 @@ module _ (s : List ℕ) (at : ℕ) {r : Result ℕ Refused} (i : r ≡ without_v
 
 -- the functions that are read so far, those of this line from number `first` on; `whole` is the reading of the line
 pub record FunctionsSoFar (s rs : List ℕ) (first : ℕ) (whole : Got (List ℕ × List ℕ)) (names arities : List ℕ) (count at : ℕ) : Type 0 where
-  pub names_padded : NamesPadded most_functions names count
-  pub arities_padded : NamesPadded most_functions arities count
   pub begun : first ≤ count
   pub left : whole ≡ entries s rs first (most_functions - count) (take count names) (take count arities) at
 
@@ -181,6 +178,8 @@ pub record FunctionsSoFar (s rs : List ℕ) (first : ℕ) (whole : Got (List ℕ
 pub record NameOfFunction (s rs : List ℕ) (first : ℕ) (whole : Got (List ℕ × List ℕ)) (names arities : List ℕ) (count : ℕ) (t : Token)
     (taken : Bool) : Type 0 where
   pub at : ℕ
+  pub names_padded : NamesPadded most_functions names count
+  pub arities_padded : NamesPadded most_functions arities count
   pub so_far : FunctionsSoFar s rs first whole names arities count at
   pub token : t ≡ token_at s at
   pub name : is_name t.key ≡ true
@@ -206,10 +205,11 @@ module _ {s rs : List ℕ} {first : ℕ} {whole : Got (List ℕ × List ℕ)} {n
       go (suc room) = rw (← e, ← i, h)
 
 pub function_named : {s rs : List ℕ} {first : ℕ} {whole : Got (List ℕ × List ℕ)} {names arities : List ℕ} {count at : ℕ} {t : Token} {b taken : Bool}
+    → NamesPadded most_functions names count → NamesPadded most_functions arities count
     → FunctionsSoFar s rs first whole names arities count at → t ≡ token_at s at → b ≡ is_name t.key → b ≡ true
     → taken ≡ (eqb count most_functions || (is_declared t.key rs || is_declared t.key (take count names)))
     → NameOfFunction s rs first whole names arities count t taken
-function_named {at = at} S e i h w = record { at = at; so_far = S; token = e; name = sym i ∙ h; tells = w }
+function_named {at = at} K A S e i h w = record { at = at; names_padded = K; arities_padded = A; so_far = S; token = e; name = sym i ∙ h; tells = w }
 
 module _ {s rs : List ℕ} {first : ℕ} {whole : Got (List ℕ × List ℕ)} {names arities : List ℕ} {count : ℕ} {t : Token} {taken : Bool}
     (N : NameOfFunction s rs first whole names arities count t taken) where
@@ -221,7 +221,7 @@ module _ {s rs : List ℕ} {first : ℕ} {whole : Got (List ℕ × List ℕ)} {n
       let v = eqb-false count most_functions u in
       let w : (is_declared t.key rs || is_declared t.key (take count names)) ≡ true =
       sym (ap (λ b. b || (is_declared t.key rs || is_declared t.key (take count names))) u) ∙ sym N.tells ∙ h in
-      let z : most_functions - count ≡ suc (most_functions - 1 - count) = (let f = N.so_far.names_padded.few in let k = below count v f in omega arith) in
+      let z : most_functions - count ≡ suc (most_functions - 1 - count) = (let f = N.names_padded.few in let k = below count v f in omega arith) in
       ap (λ m. entries s rs first m (take count names) (take count arities) N.at) z ∙ rw (← N.token, N.name, w)
     where
       below : (c : ℕ) → (c ≡ most_functions → ⊥) → c ≤ most_functions → c < most_functions
@@ -242,7 +242,7 @@ module _ {s rs : List ℕ} {first : ℕ} {whole : Got (List ℕ × List ℕ)} {n
       let q : ◌≡◌ {A = ℕ} 0 1 = cc in absurd (omega arith))
       λ u. let v = eqb-false count most_functions u in
       by_test (ltb count most_functions) (λ w. ltb-true count most_functions w)
-      λ w. absurd (v (let f = so_far.names_padded.few in let k = ltb-false count most_functions w in omega arith))
+      λ w. absurd (v (let f = N.names_padded.few in let k = ltb-false count most_functions w in omega arith))
 
   unknown : (is_declared t.key rs || is_declared t.key (take count names)) ≡ false
   unknown =
@@ -267,22 +267,18 @@ module _ {s rs : List ℕ} {first : ℕ} {whole : Got (List ℕ × List ℕ)} {n
   functions_turn {n} {b'} k =
       let l = functions_room in
       let q = plain_on (arity_of s t.end) F.arity k in record {
-        names_padded = kept_more most_functions names count t.key so_far.names_padded l;
-        arities_padded = kept_more most_functions arities count n so_far.arities_padded l;
         begun = let b = so_far.begun in omega arith;
         left = entered
             ∙ ap (λ x. and_then x λ n e. entries s rs first (most_functions - (count + 1)) (take count names ++ t.key ∷ [])
             (take count arities ++ n ∷ []) e) q
-            ∙ (λ i. entries s rs first (most_functions - (count + 1)) (sym (kept_take most_functions names count t.key so_far.names_padded l) i)
-            (sym (kept_take most_functions arities count n so_far.arities_padded l) i) b');
+            ∙ (λ i. entries s rs first (most_functions - (count + 1)) (sym (kept_take most_functions names count t.key N.names_padded l) i)
+            (sym (kept_take most_functions arities count n N.arities_padded l) i) b');
       }
 
 -- a line behind the functions that were read
-module _ (s rs known taking : List ℕ) (first from : ℕ) (K : NamesPadded most_functions known first) (A : NamesPadded most_functions taking first) where
+module _ (s rs known taking : List ℕ) (first from : ℕ) (K : NamesPadded most_functions known first) where
   pub line_begins : FunctionsSoFar s rs first (line_from s rs (take first known) (take first taking) from) known taking first from
   line_begins = record {
-    names_padded = K;
-    arities_padded = A;
     begun = omega arith;
     left = ap (λ n. entries s rs n (most_functions - n) (take first known) (take first taking) from) K.size;
   }

@@ -4,11 +4,11 @@ use Rattle.grammar.specs.Reading.{line_from}
 use Rattle.syntax.proofs.Theory.Lists.{FunctionsSoFar}
 use Rattle.syntax.proofs.read_line.Given as goal
 
-abbrev pub invariant-loop-names : goal.invariant-loop-names
-invariant-loop-names l =
+abbrev pub invariant-loop-entries : goal.invariant-loop-entries
+invariant-loop-entries l =
     let k = l.fn.known in
     FunctionsSoFar l.text l.regs k.count (line_from l.text l.regs (take k.count k.names) (take k.count k.arities) l.from)
-    l.names l.arities l.count l.at
+    l.entries.names.items l.entries.arities l.entries.names.count l.at
 
-abbrev pub decreases-loop-names : goal.decreases-loop-names
-decreases-loop-names l = most_functions - l.count
+abbrev pub decreases-loop-entries : goal.decreases-loop-entries
+decreases-loop-entries l = most_functions - l.entries.names.count
