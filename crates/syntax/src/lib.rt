@@ -16,16 +16,15 @@ ghost use Rattle.syntax.specs.Reads.{Reads};
 ghost use Rattle.syntax.specs.Top.{RegistersPadded, FunctionsPadded, padded_registers, padded_functions, Finishes, headed, arity_flag};
 ghost use Rattle.syntax.specs.Top.{hidden_count, RoomForHidden, spelled_behind};
 
-mod names;
-
-use names::{Entries, Names};
-
 use blocks::{POINT_SPACE, PointEntry, Points};
 use letters::Header;
 use letters::limits::{MOST_FUNCTIONS, MOST_REGISTERS};
 use letters::reasons::{Reason, Refused};
+use names::{Entries, Names};
 use phrases::Scope;
 use tokens::Token;
+
+mod names;
 
 /// The most bytes that a macro's text has.
 pub const LONGEST_TEXT: usize = 4096;
@@ -81,7 +80,7 @@ pub struct MacroRead {
 }
 
 /// The registers that were read.
-// Here and in `Functions` arrays with a count stand, since memory is fixed.
+// Here and in `Functions` arrays with a count stand, since memory is fixed; not `Names`, whose fact lists of any length (`held_registers`) do not have.
 #[derive(Clone, Copy)]
 pub struct Registers {
     /// The place of the next byte.
@@ -215,7 +214,7 @@ fn read_line(text: &[u8], regs: &[u64], known: Functions, from: usize) -> Result
     ensures { result
         ≡ read_as held_functions (line_from text.now regs.now (take known.count known.names) (take known.count known.arities) from) }
 {
-    let mut entries = Entries::known(known.names, known.arities, known.count);
+    let mut entries = Entries::of(known);
     let mut at = from;
     // a `loop`, as for registers
     loop {

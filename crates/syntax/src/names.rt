@@ -2,6 +2,7 @@
 ghost use Rattle.letters.specs.Editions.{most_functions};
 ghost use Rattle.syntax.specs.Lists.{NamesPadded};
 
+use super::Functions;
 use letters::limits::MOST_FUNCTIONS;
 
 // At most N names, in lower case.
@@ -67,18 +68,21 @@ pub(crate) struct Entries {
 
 impl Entries {
     ghost use Rattle.std.specs.Prelude.{◌≡◌, ◌+◌, ◌<◌, set};
+    ghost use Rattle.syntax.specs.Top.{FunctionsPadded};
 
     // The entries that were read before.
-    pub(crate) fn known(items: [u64; MOST_FUNCTIONS], arities: [u8; MOST_FUNCTIONS], count: usize) -> Entries
-        requires { NamesPadded most_functions items count × NamesPadded most_functions arities count }
-        ensures items { result.names.items ≡ items }
-        ensures arities { result.arities ≡ arities }
-        ensures count { result.names.count ≡ count }
+    pub(crate) fn of(known: Functions) -> Entries
+        requires { FunctionsPadded known }
+        ensures items { result.names.items ≡ known.names }
+        ensures arities { result.arities ≡ known.arities }
+        ensures count { result.names.count ≡ known.count }
     {
+        let items = known.names;
+        let arities = known.arities;
         Entries {
             names: Names {
                 items,
-                count,
+                count: known.count,
             },
             arities,
         }

@@ -73,9 +73,6 @@ module _ (n : ℕ) (names : List ℕ) (count k : ℕ) (K : NamesPadded n names c
   pub kept_more : NamesPadded n (set names count k) (count + 1)
   kept_more = record { few = omega arith; pad = stored ∙ ap (padded n) (sym kept_take); size = ap length kept_take ∙ more }
 
-pub kept_eight : NamesPadded most_registers (replicate most_registers 0) 0
-kept_eight = record { few = omega arith; pad = refl; size = refl }
-
 -- ---- registers
 
 or_left : (a b : Bool) → a ≡ true → (a || b) ≡ true

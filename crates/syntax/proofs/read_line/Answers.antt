@@ -4,7 +4,7 @@ use Rattle.syntax.proofs.read_line.Goals as goal
 
 pub loop-entries-init : goal.loop-entries-init
 loop-entries-init c =
-    rw (c.known-entries.ensures.items, c.known-entries.ensures.arities, c.known-entries.ensures.count) (law.line_begins _ _ _ _ _ _ c.requires.1.0)
+    rw (c.of-entries.ensures.items, c.of-entries.ensures.arities, c.of-entries.ensures.count) (law.line_begins _ _ _ _ _ _ c.requires.1.0)
 
 pub returns-then-not-is_name : goal.returns-then-not-is_name
 returns-then-not-is_name c = law.functions_last c.loop-entries.invariant c.next-t.ensures c.is_name.ensures c.if-not-is_name.true c.functions_end.ensures
