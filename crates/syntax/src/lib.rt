@@ -80,7 +80,8 @@ pub struct MacroRead {
 }
 
 /// The registers that were read.
-// Here and in `Functions` arrays with a count stand, since memory is fixed; not `Names`, whose fact lists of any length (`held_registers`) do not have.
+// Here and in `Functions` arrays with a count stand, since memory is fixed; not `Names`, for what may not change: these fields are public, and
+// `held_registers` and `held_functions` make such a value of a list of any length, which `Names` does not hold.
 #[derive(Clone, Copy)]
 pub struct Registers {
     /// The place of the next byte.

@@ -70,9 +70,6 @@ module _ (n : ℕ) (names : List ℕ) (count k : ℕ) (K : NamesPadded n names c
   pub kept_take : take (count + 1) (set names count k) ≡ so ++ k ∷ []
   kept_take = (λ i. take (sym more i) (stored i)) ∙ take_all (so ++ k ∷ []) (replicate (n - length (so ++ k ∷ [])) 0)
 
-  pub kept_more : NamesPadded n (set names count k) (count + 1)
-  kept_more = record { few = omega arith; pad = stored ∙ ap (padded n) (sym kept_take); size = ap length kept_take ∙ more }
-
 -- ---- registers
 
 or_left : (a b : Bool) → a ≡ true → (a || b) ≡ true
@@ -112,7 +109,8 @@ module _ {s : List ℕ} {from : ℕ} {names : List ℕ} {count at : ℕ} (S : Re
       go (suc room) = rw (← e, ← i, h)
 
 pub register_named : {s : List ℕ} {from : ℕ} {names : List ℕ} {count at : ℕ} {t : Token} {b taken : Bool}
-    → NamesPadded most_registers names count → RegistersSoFar s from names count at → t ≡ token_at s at → b ≡ is_name t.key → b ≡ true → taken ≡ (eqb count most_registers || is_declared t.key (take count names))
+    → NamesPadded most_registers names count → RegistersSoFar s from names count at → t ≡ token_at s at
+    → b ≡ is_name t.key → b ≡ true → taken ≡ (eqb count most_registers || is_declared t.key (take count names))
     → NameOfRegister s from names count t taken
 register_named {at = at} K S e i h w = record { at = at; names_padded = K; so_far = S; token = e; name = sym i ∙ h; tells = w }
 
