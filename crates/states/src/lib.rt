@@ -164,6 +164,7 @@ fn window_in(state: &[u8]) -> Window
 }
 
 /// The monitor in a state.
+#[tactic(auto, unfolding(crate::specs::States::monitor_in, records::specs::Records::is_set))]
 pub fn monitor_in(state: &[u8]) -> Monitor
     requires { monitor_size ≤ length state.now }
     ensures { result ≡ monitor_in state.now }
@@ -184,39 +185,51 @@ pub fn monitor_in(state: &[u8]) -> Monitor
 
 // ---- streams
 
+// The numbers of the phases, as a state keeps them.
+const PHASE_EMPTY: u8 = 0;
+
+const PHASE_ONE: u8 = 1;
+
+const PHASE_EVEN: u8 = 2;
+
+const PHASE_ODD: u8 = 3;
+
 fn phase_code(phase: Phase) -> u8
     ensures { result ≡ phase_code phase }
 {
     match phase {
-        Phase::Empty => 0,
-        Phase::One => 1,
-        Phase::Even => 2,
-        Phase::Odd => 3,
+        Phase::Empty => PHASE_EMPTY,
+        Phase::One => PHASE_ONE,
+        Phase::Even => PHASE_EVEN,
+        Phase::Odd => PHASE_ODD,
     }
 }
 
+// Any other number is read as that of an odd phase: every state's bytes are read as some stream.
+#[tactic(auto, using(base::proofs::Theory::Choice::decide), unfolding(crate::specs::States::phase_in))]
 fn phase_of(code: u8) -> Phase
     ensures { result ≡ phase_in code }
 {
-    if code == 0 {
-        return Phase::Empty;
+    match code {
+        PHASE_EMPTY => Phase::Empty,
+        PHASE_ONE => Phase::One,
+        PHASE_EVEN => Phase::Even,
+        _ => Phase::Odd,
     }
-    if code == 1 {
-        return Phase::One;
-    }
-    if code == 2 {
-        return Phase::Even;
-    }
-    Phase::Odd
 }
+
+// The numbers of the two kinds of answers, as a state keeps them.
+const JUDGED: u8 = 0;
+
+const REFUSED: u8 = 1;
 
 // Here and below an answer is taken apart number by number: each stands at a place of its own in a state that C keeps.
 fn verdict_code(verdict: RunAnswer) -> u8
     ensures { result ≡ run_answer_code verdict }
 {
     match verdict {
-        RunAnswer::Judged(incoherent, infeasible) => 0,
-        RunAnswer::Refused(number, place) => 1,
+        RunAnswer::Judged(..) => JUDGED,
+        RunAnswer::Refused(..) => REFUSED,
     }
 }
 
@@ -224,8 +237,8 @@ fn refusal_number(verdict: RunAnswer) -> u8
     ensures { result ≡ refusal_number verdict }
 {
     match verdict {
-        RunAnswer::Judged(incoherent, infeasible) => 0,
-        RunAnswer::Refused(number, place) => number,
+        RunAnswer::Judged(..) => 0,
+        RunAnswer::Refused(number, ..) => number,
     }
 }
 
@@ -233,8 +246,8 @@ fn first_number(verdict: RunAnswer) -> u64
     ensures { result ≡ first_number verdict }
 {
     match verdict {
-        RunAnswer::Judged(incoherent, infeasible) => incoherent,
-        RunAnswer::Refused(number, place) => 0,
+        RunAnswer::Judged(incoherent, ..) => incoherent,
+        RunAnswer::Refused(..) => 0,
     }
 }
 
@@ -242,18 +255,20 @@ fn second_number(verdict: RunAnswer) -> u64
     ensures { result ≡ second_number verdict }
 {
     match verdict {
-        RunAnswer::Judged(incoherent, infeasible) => infeasible,
-        RunAnswer::Refused(number, place) => place,
+        RunAnswer::Judged(.., infeasible) => infeasible,
+        RunAnswer::Refused(.., place) => place,
     }
 }
 
+// Any other number is read as that of a refusal.
+#[tactic(auto, using(base::proofs::Theory::Choice::decide), unfolding(crate::specs::States::run_answer_in))]
 fn verdict_of(code: u8, number: u8, first: u64, second: u64) -> RunAnswer
     ensures { result ≡ run_answer_in code number first second }
 {
-    if code == 0 {
-        return RunAnswer::Judged(first, second);
+    match code {
+        JUDGED => RunAnswer::Judged(first, second),
+        _ => RunAnswer::Refused(number, second),
     }
-    RunAnswer::Refused(number, second)
 }
 
 // Lays what a stream has behind its monitor over the state.
