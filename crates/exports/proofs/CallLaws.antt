@@ -9,9 +9,8 @@ use lib.ListN.{length, get_or, drop, set}
 use borrow.Author.Tests.{le-ltb, eq-eqb, ltb-false}
 use Rattle.base.specs.Choice.{pick}
 use Rattle.letters.specs.declared.Header.{Header}
-use Rattle.std.specs.Prelude.{Result, Ok, Err}
+use Rattle.std.specs.Prelude.{Result}
 use Rattle.letters.specs.declared.reasons.Refused.{Refused}
-use Rattle.letters.specs.Reasons.{number_of}
 use Rattle.letters.specs.Answers.{value, refusal}
 use Rattle.letters.specs.Reasons.{as_answer}
 use Rattle.letters.specs.Editions.{first_edition}
@@ -59,24 +58,6 @@ stored_over n numbers stored answer answer' same full e = e ∙ rw full (ap (λ 
 one_stored : (answer : List ℕ) (v : ℕ) → 1 ≤ length answer → set answer 0 v ≡ v ∷ drop 1 answer
 one_stored [] v l = absurd (omega arith)
 one_stored (x ∷ answer) v l = refl
-
-pub numbers_written : (w : Result ℕ Refused) (n : ℕ) → w ≡ Ok n → 0 ∷ 0 ∷ n ∷ [] ≡ written_numbers (as_answer w)
-unfolding written_numbers
-numbers_written w n e = rw e
-
-pub numbers_unwritten : (w : Result ℕ Refused) (f : Refused) → w ≡ Err f → number_of f.reason ∷ f.place ∷ 0 ∷ [] ≡ written_numbers (as_answer w)
-unfolding written_numbers
-numbers_unwritten w f e = rw e
-
-pub numbers_read : (r : Result (Header × ℕ) Refused) (h : Header) (n : ℕ) → r ≡ Ok (h, n)
-    → 0 ∷ 0 ∷ h.registers ∷ h.functions ∷ h.binary ∷ n ∷ [] ≡ read_numbers (as_answer r)
-unfolding read_numbers
-numbers_read r h n e = rw e
-
-pub numbers_unread : (r : Result (Header × ℕ) Refused) (f : Refused) → r ≡ Err f
-    → number_of f.reason ∷ f.place ∷ 0 ∷ 0 ∷ 0 ∷ 0 ∷ [] ≡ read_numbers (as_answer r)
-unfolding read_numbers
-numbers_unread r f e = rw e
 
 -- ---- traces
 

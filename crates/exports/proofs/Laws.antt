@@ -8,14 +8,9 @@ use borrow.Author.Tests.{lt-ltb, le-ltb}
 use Rattle.streaming.specs.Run.{run_answer}
 use Rattle.streaming.specs.Stream.{judged_bytes}
 use Rattle.streaming.specs.declared.RunAnswer.{RunAnswer}
-use Rattle.streaming.specs.declared.RunAnswer.TheVariants.{Judged, Refused}
 use Rattle.letters.specs.Editions.{first_edition, most_letters}
 use Rattle.traces.specs.ReadingParts.{reading_within}
 use Rattle.model_writer.specs.Answer.{ShowResult, shown_answer, answer_to, output_after, Means, Showed}
-use Rattle.std.specs.Prelude.{Ok, Err}
-use Rattle.letters.specs.declared.reasons.Refused as reasons
-use Rattle.letters.specs.Reasons.{number_of}
-use Rattle.model_writer.specs.declared.Shown.TheVariants as shown
 use Rattle.syntax.specs.Reads.{Reads}
 use Rattle.syntax.specs.declared.MacroRead.{MacroRead}
 use Rattle.exports.specs.Numbers.{laid_over, run_numbers, monitored, model_numbers, modelled, model_output, ModelMeans, ReadsMacro}
@@ -44,15 +39,6 @@ laid_stored n numbers stored answer answer' same full room e = rw (le-ltb (lengt
 
 -- ---- The monitor
 
-pub numbers_judged : (v : RunAnswer) (incoherent infeasible : ℕ) → v ≡ Judged incoherent infeasible
-    → 0 ∷ 0 ∷ incoherent ∷ infeasible ∷ [] ≡ run_numbers (run_answer v)
-unfolding run_numbers
-numbers_judged v incoherent infeasible e = rw e refl
-
-pub numbers_refused : (v : RunAnswer) (number place : ℕ) → v ≡ Refused number place → number ∷ place ∷ 0 ∷ 0 ∷ [] ≡ run_numbers (run_answer v)
-unfolding run_numbers
-numbers_refused v number place e = rw e refl
-
 pub monitored_short : (trace answer : List ℕ) → length answer < 4 → answer ≡ monitored trace answer
 unfolding monitored
 monitored_short trace answer short = laid_short 4 _ answer short
@@ -64,19 +50,6 @@ unfolding monitored
 monitored_stored trace stored answer answer' v e same = laid_stored 4 _ stored answer answer' (same ∙ ap (λ w. run_numbers (run_answer w)) e)
 
 -- ---- The shown model
-
-pub numbers_model : (s : ShowResult) (bytes : ℕ) → s ≡ Ok (shown.Model bytes) → 0 ∷ 0 ∷ 0 ∷ bytes ∷ [] ≡ model_numbers (shown_answer s)
-unfolding model_numbers
-numbers_model s bytes e = rw e refl
-
-pub numbers_infeasible : (s : ShowResult) (letter : ℕ) → s ≡ Ok (shown.Infeasible letter) → 0 ∷ 0 ∷ letter ∷ 0 ∷ [] ≡ model_numbers (shown_answer s)
-unfolding model_numbers
-numbers_infeasible s letter e = rw e refl
-
-pub numbers_unshown : (s : ShowResult) (e : reasons.Refused) (number : ℕ) → s ≡ Err e → number ≡ number_of e.reason
-    → number ∷ e.place ∷ 0 ∷ 0 ∷ [] ≡ model_numbers (shown_answer s)
-unfolding model_numbers
-numbers_unshown s e number q g = rw (q, g) refl
 
 pub modelled_short : (trace : List ℕ) (room : ℕ) (answer : List ℕ) → length answer < 4 → answer ≡ modelled trace room answer
 unfolding modelled

@@ -1,24 +1,14 @@
 -- What the call that prints a macro leaves, from what its own calls ensure.
 use mathlib.Core.Path.{◌≡◌, refl, ap, ◌∙◌}
 use Prim.Native.Nat.{ℕ, ◌≤◌, ◌<◌}
-use mathlib.Core.List.{List, [], ◌∷◌, ◌++◌}
+use mathlib.Core.List.{List, ◌++◌}
 use lib.ListN.{length, drop}
 use Rattle.layout_theory.specs.Writing.{WritesLayout}
 use Rattle.layout_writer.specs.Answer.{layout_answer}
-use Rattle.std.specs.Prelude.{Result, Ok, Err}
-use Rattle.letters.specs.Reasons.{number_of}
+use Rattle.std.specs.Prelude.{Result}
 use Rattle.letters.specs.declared.reasons.Refused.{Refused}
 use Rattle.exports.specs.LayoutCalls.{layout_count, layout_numbers, LaysOutMacro}
 use Rattle.exports.proofs.Laws.{too_short}
-
-pub numbers_printed : (w : Result ℕ Refused) (bytes : ℕ) → w ≡ Ok bytes → 0 ∷ 0 ∷ bytes ∷ [] ≡ layout_numbers (layout_answer w)
-unfolding layout_numbers
-numbers_printed w bytes e = rw e
-
-pub numbers_unprinted : (w : Result ℕ Refused) (r : Refused) (number : ℕ) → number ≡ number_of r.reason → w ≡ Err r
-    → number ∷ r.place ∷ 0 ∷ [] ≡ layout_numbers (layout_answer w)
-unfolding layout_numbers
-numbers_unprinted w r number f e = rw (f, e)
 
 module _ (text out answer : List ℕ) where
   pub layout_short : length answer < layout_count → LaysOutMacro text out answer out answer

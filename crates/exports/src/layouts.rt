@@ -10,6 +10,7 @@ use letters::reasons::Refused;
 const LAYOUT_NUMBERS: usize = 3;
 
 // The numbers of what printing a macro gives.
+#[tactic(auto, unfolding(crate::specs::LayoutCalls::layout_numbers))]
 fn layout_numbers(written: Result<usize, Refused>) -> [u64; LAYOUT_NUMBERS]
     ensures { result ≡ layout_numbers (layout_answer written) }
 {

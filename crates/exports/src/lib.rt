@@ -43,6 +43,7 @@ fn store(numbers: &[u64], answer: &mut [u64])
 }
 
 // The numbers of what the run over a trace answers.
+#[tactic(auto, unfolding(crate::specs::Numbers::run_numbers))]
 fn run_numbers(verdict: RunAnswer) -> [u64; RUN_NUMBERS]
     ensures { result ≡ run_numbers (run_answer verdict) }
 {
@@ -68,6 +69,7 @@ pub extern "C" fn fadzgime_monitor(trace: &[u8], answer: &mut [u64])
 }
 
 // The numbers of what is shown for a trace.
+#[tactic(auto, unfolding(crate::specs::Numbers::model_numbers))]
 fn model_numbers(shown: Result<Shown, Refused>) -> [u64; MODEL_NUMBERS]
     ensures { result ≡ model_numbers (shown_answer shown) }
 {
@@ -96,6 +98,7 @@ pub extern "C" fn fadzgime_model(trace: &[u8], out: &mut [u8], answer: &mut [u64
 }
 
 // The numbers of what reading a text gives.
+#[tactic(auto, unfolding(crate::specs::Held::held_numbers))]
 fn macro_numbers(read: MacroRead) -> [u64; MACRO_NUMBERS]
     ensures { result ≡ held_numbers read }
 {

@@ -13,6 +13,7 @@ const WRITTEN_NUMBERS: usize = 3;
 const READ_NUMBERS: usize = 6;
 
 // The numbers of what writing a trace gives.
+#[tactic(auto, unfolding(crate::specs::TraceCalls::written_numbers))]
 fn written_numbers(written: Result<usize, Refused>) -> [u64; WRITTEN_NUMBERS]
     ensures { result ≡ written_numbers (as_answer written) }
 {
@@ -50,6 +51,7 @@ pub extern "C" fn fadzgime_write(
 }
 
 // The numbers of what reading a trace gives.
+#[tactic(auto, unfolding(crate::specs::TraceCalls::read_numbers))]
 fn read_numbers(read: Result<(Header, u64), Refused>) -> [u64; READ_NUMBERS]
     ensures { result ≡ read_numbers (as_answer read) }
 {

@@ -77,7 +77,9 @@ four_laid tail letters first second b₀ b₁ b₂ b₃ b₄ room z₁ z₂ z₃
     e₄ ∙ ap (λ r. f ++ tail ++ letters ++ first ++ second ++ r) behind ∙ simp append_assoc
   where
     behind : drop (length second) (drop (length first) (drop (length letters) (drop (length tail) (drop monitor_size b₀)))) ≡ drop stream_size b₀
-    behind = rw (z₄, z₃, z₂, z₁) (rw (drop-drop 4 monitor_size b₀, drop-drop 8 letters_place b₀, drop-drop 8 first_letter_place b₀, drop-drop 8 second_place b₀))
+    behind =
+        rw (z₄, z₃, z₂, z₁)
+        (rw (drop-drop 4 monitor_size b₀, drop-drop 8 letters_place b₀, drop-drop 8 first_letter_place b₀, drop-drop 8 second_place b₀))
 
 -- a part of a list, copied over an array of its length
 pub copied : (b s zero : List ℕ) (at n k : ℕ) → k ≡ n → length zero ≡ n → at + n ≤ length s
