@@ -1,6 +1,7 @@
 -- The search over a macro that was read, as the code holds it.
 use Rattle.std.specs.Prelude.{◌≡◌, List, ℕ, Result, length}
 use Rattle.letters.specs.Editions.{first_edition}
+use Rattle.letters.specs.declared.reasons.Refused.{Refused}
 use Rattle.letters.specs.Capacity.{capacity_of}
 use Rattle.syntax.specs.declared.CompiledMacro as struct
 use Rattle.syntax.specs.Answer.{held_macro}
@@ -20,6 +21,6 @@ abbrev pub search_on : struct.CompiledMacro → List ℕ → Result ℕ Stop × 
 search_on program t = search_of program.header program.points program.count (capacity_of first_edition (length t)) t
 
 -- What is answered, and what the output then holds.
-abbrev pub Tells : struct.CompiledMacro → List ℕ → List ℕ → answer.Verdict → List ℕ → Type 0
+abbrev pub Tells : struct.CompiledMacro → List ℕ → List ℕ → Result answer.Verdict Refused → List ℕ → Type 0
 Tells program t output r output' =
     SearchAnswered program.header program.points first_edition output (search_on program t).0 (search_on program t).1 (answer_of r) output'

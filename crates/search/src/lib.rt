@@ -17,7 +17,7 @@ ghost use Rattle.search.specs.MacroSearch.{HoldsMacro, Tells};
 use blocks::PointEntry;
 use exploration::{POINTS, Stop, letter_of, search_pairs};
 use letters::limits::{MOST_LETTERS, UNIT_BYTES};
-use letters::refusal_numbers::{OUTPUT_TOO_SMALL, TABLE_TOO_SMALL};
+use letters::reasons::{Reason, Refused};
 use letters::words::{encode_header, encode_letter};
 use letters::{Header, Letter};
 use model_writer::{Shown, show};
@@ -130,7 +130,7 @@ fn pack(header: Header, points: &[PointEntry; POINTS], table: &[u8], d: usize) -
 
 // ---- the answer for an event
 
-/// What is answered.
+/// What is answered where nothing is refused.
 #[derive(Clone, Copy)]
 pub enum Verdict {
     /// Pass, with the count of pairs.
@@ -139,43 +139,45 @@ pub enum Verdict {
     Fail(usize, usize),
     /// Incoherent, with the counts of pairs and of letters.
     Incoherent(usize, usize),
-    /// A refusal, its number and its place.
-    Refused(u8, usize),
 }
 
 // The answer for an incoherent execution of so many pairs: its trace, if it fits the output.
-fn deliver_incoherent(packed: &Packed, count: usize, output: &mut [u8]) -> Verdict
+fn deliver_incoherent(packed: &Packed, count: usize, output: &mut [u8]) -> Result<Verdict, Refused>
     requires { packed.now.start ≤ last_letter }
     ensures { Delivers breaking packed.now count output.old result output.new }
 {
     let n = TRACE_BYTES - packed.start;
     if output.len() < n {
-        return Verdict::Refused(OUTPUT_TOO_SMALL, 0);
+        return Err(Reason::OutputTooSmall.at(0));
     }
     packed.write(output);
-    Verdict::Incoherent(count, (n - UNIT_BYTES) / UNIT_BYTES)
+    Ok(Verdict::Incoherent(count, (n - UNIT_BYTES) / UNIT_BYTES))
 }
 
 // The answer for a failing execution: its trace and then its model, if they fit the output. The model is written first: it alone can fail to fit.
-fn deliver_failing(packed: &Packed, count: usize, output: &mut [u8]) -> Verdict
+fn deliver_failing(packed: &Packed, count: usize, output: &mut [u8]) -> Result<Verdict, Refused>
     requires { packed.now.start ≤ last_letter }
     ensures { Delivers failing packed.now count output.old result output.new }
 {
     let n = TRACE_BYTES - packed.start;
     if output.len() < n {
-        return Verdict::Refused(OUTPUT_TOO_SMALL, 0);
+        return Err(Reason::OutputTooSmall.at(0));
     }
     if !packed.show_behind(output) {
-        return Verdict::Refused(OUTPUT_TOO_SMALL, 0);
+        return Err(Reason::OutputTooSmall.at(0));
     }
     packed.write(output);
-    Verdict::Fail(count, (n - UNIT_BYTES) / UNIT_BYTES)
+    Ok(Verdict::Fail(count, (n - UNIT_BYTES) / UNIT_BYTES))
 }
 
 // ---- the search over a macro
 
 // Searches all executions of a macro that was read, and answers. The table is left as the search has filled it.
-fn search_macro(program: CompiledMacro, table: &mut [u8], output: &mut [u8]) -> Verdict
+fn search_macro(
+    program: CompiledMacro,
+    table: &mut [u8],
+    output: &mut [u8],
+) -> Result<Verdict, Refused>
     requires { HoldsMacro program }
     ensures { Tells program table.old output.old result output.new }
 {
@@ -183,8 +185,8 @@ fn search_macro(program: CompiledMacro, table: &mut [u8], output: &mut [u8]) -> 
     let header = program.header;
     let end = program.count as usize;
     match search_pairs(header, program.points, end, table, n) {
-        Ok(count) => Verdict::Pass(count),
-        Err(Stop::Full) => Verdict::Refused(TABLE_TOO_SMALL, 0),
+        Ok(count) => Ok(Verdict::Pass(count)),
+        Err(Stop::Full) => Err(Reason::TableTooSmall.at(0)),
         Err(Stop::Breaking(count, d)) => {
             deliver_incoherent(&pack(header, &program.points, table, d), count, output)
         }
@@ -196,14 +198,11 @@ fn search_macro(program: CompiledMacro, table: &mut [u8], output: &mut [u8]) -> 
 
 /// The verdict on the macro of a text, over all its executions. The table is room for pairs, 192 bytes each; after a search it is all zero.
 /// The output gets the execution of the first event, packed, and on fail its model behind it; pass and a refusal leave it as it is.
-pub fn judge_macro(text: &[u8], table: &mut [u8], output: &mut [u8]) -> Verdict
+pub fn judge_macro(text: &[u8], table: &mut [u8], output: &mut [u8]) -> Result<Verdict, Refused>
     ensures { Demand3 Feasible text.now table.old output.old (answer_of result) table.new output.new }
 {
-    let read = syntax::read(text);
-    if read.refusal != 0 {
-        return Verdict::Refused(read.refusal, read.place);
-    }
-    let answer = search_macro(read.program, table, output);
+    let program = syntax::compiled(text)?;
+    let answer = search_macro(program, table, output);
     table::clear(table);
     answer
 }

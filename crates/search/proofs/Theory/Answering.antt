@@ -11,7 +11,9 @@ use Rattle.letters.specs.declared.Letter.{Letter}
 use Rattle.letters.specs.Editions.{first_edition}
 use Rattle.letters.specs.Words.{header_word, letter_word}
 use Rattle.letters.proofs.Theory.WordLaws.{first_roomy}
-use Rattle.letters.specs.RefusalNumbers.{output_too_small}
+use Rattle.letters.specs.declared.reasons.Reason.TheVariants.{OutputTooSmall}
+use Rattle.letters.specs.declared.reasons.Refused.{Refused}
+use Rattle.std.specs.Prelude.{Result, Ok, Err}
 use Rattle.search.specs.Tracing.{trace_bytes, last_letter}
 use Rattle.traces.specs.Traces.{packing}
 use Rattle.traces.proofs.Theory.TraceLaws.{bytes_length}
@@ -19,10 +21,15 @@ use Rattle.semantics.specs.Terms.{begin}
 use Rattle.verdict_theory.specs.Verdict.{fail, incoherent, unfit, breaking, failing, showing, Delivered}
 use Rattle.verdict_theory.specs.AnswerPacking.{packed}
 use Rattle.search.specs.declared.Packed.{Packed}
-use Rattle.search.specs.declared.Verdict.TheVariants.{Fail, Incoherent, Refused}
+use Rattle.search.specs.declared.Verdict.{Verdict}
+use Rattle.search.specs.declared.Verdict.TheVariants.{Fail, Incoherent}
 use Rattle.search.proofs.Theory.Delivering.{delivered_trace, refused_trace, refused_failing, delivered_model, refused_model, behind_kept}
 use Rattle.search.specs.Modelling.{ModelWrittenBehind}
 use Rattle.search.specs.Answering.{Packs, Delivers}
+
+-- The refusal of an output that the answer does not fit.
+abbrev output_refused : Result Verdict Refused
+output_refused = Err (record { reason = OutputTooSmall; place = 0 })
 
 module _ (p : Packed) (count : ℕ) (output : List ℕ) (inside : p.start ≤ last_letter) where
   abbrev s : List ℕ
@@ -47,12 +54,12 @@ module _ (p : Packed) (count : ℕ) (output : List ℕ) (inside : p.start ≤ la
     letters_are = let a = same in let b = long in omega arith
 
   -- ── incoherent ──
-  pub breaking_refused : length output < trace_bytes - p.start → Delivers breaking p count output (Refused output_too_small 0) output
+  pub breaking_refused : length output < trace_bytes - p.start → Delivers breaking p count output output_refused output
   breaking_refused l h ls x f = refused_trace h ls output (showing breaking count (length ls)) (let a = same h ls x in omega arith)
 
   pub breaking_shown : trace_bytes - p.start ≤ length output → (output' : List ℕ)
       → output' ≡ drop p.start p.bytes ++ drop (length (drop p.start p.bytes)) output
-      → Delivers breaking p count output (Incoherent count ((trace_bytes - p.start - 2) / 2)) output'
+      → Delivers breaking p count output (Ok (Incoherent count ((trace_bytes - p.start - 2) / 2))) output'
   breaking_shown l output' e h ls x f =
       subst (λ o. Delivered (packed first_edition (begin h) breaking ls) (showing breaking count (length ls)) output (incoherent count ((n - 2) / 2)) o)
       (sym (e ∙ ap (λ b. b ++ drop (length b) output) x.bytes))
@@ -61,7 +68,7 @@ module _ (p : Packed) (count : ℕ) (output : List ℕ) (inside : p.start ≤ la
       (sym (letters_are h ls x)) (delivered_trace h ls output (showing breaking count (length ls)) (let a = same h ls x in omega arith)))
 
   -- ── fail ──
-  pub failing_refused : length output < trace_bytes - p.start → Delivers failing p count output (Refused output_too_small 0) output
+  pub failing_refused : length output < trace_bytes - p.start → Delivers failing p count output output_refused output
   failing_refused l h ls x f = refused_failing h ls output (showing failing count (length ls)) (let a = same h ls x in omega arith)
 
   module _ (l : trace_bytes - p.start ≤ length output) (between : List ℕ) where
@@ -74,7 +81,7 @@ module _ (p : Packed) (count : ℕ) (output : List ℕ) (inside : p.start ≤ la
 
     -- the model does not fit behind the trace
     pub failing_unfit : ModelWrittenBehind (drop p.start p.bytes) output false between
-        → Delivers failing p count output (Refused output_too_small 0) between
+        → Delivers failing p count output output_refused between
     failing_unfit w h ls x f =
         let y = showed false w h ls x in
         let k = behind_kept h ls output (showing failing count (length ls)) x.header x.fit x.few x.formed (f refl) y.shown y.behind
@@ -87,7 +94,7 @@ module _ (p : Packed) (count : ℕ) (output : List ℕ) (inside : p.start ≤ la
 
     pub failing_shown : ModelWrittenBehind (drop p.start p.bytes) output true between → (output' : List ℕ)
         → output' ≡ drop p.start p.bytes ++ drop (length (drop p.start p.bytes)) between
-        → Delivers failing p count output (Fail count ((trace_bytes - p.start - 2) / 2)) output'
+        → Delivers failing p count output (Ok (Fail count ((trace_bytes - p.start - 2) / 2))) output'
     failing_shown w output' e h ls x f =
         let y = showed true w h ls x in
         let (k, g) = y.yes refl in

@@ -10,6 +10,7 @@ use Rattle.letters.specs.declared.Letter.{Letter}
 use Rattle.letters.specs.Editions.{first_edition}
 use Rattle.letters.specs.Capacity.{capacity_of, most_pairs}
 use Rattle.letters.specs.Letters.{HeaderFits}
+use Rattle.letters.specs.declared.reasons.Refused.{Refused}
 use Rattle.semantics.specs.Terms.{begin, trace_of, state}
 use Rattle.semantics.specs.Facts.{WellFormed}
 use Rattle.grammar.specs.Limits.{most_points}
@@ -140,7 +141,7 @@ module _ (program : struct.CompiledMacro) (given : Given) (holds : held_macro gi
           (event_writable given (capacity_of first_edition (length t)) t most room kind k d)
 
       -- what is told of an event
-      pub event_delivered : (p : Packed) → length p.bytes ≡ trace_bytes → (output : List ℕ) (r : answer.Verdict) (output' : List ℕ)
+      pub event_delivered : (p : Packed) → length p.bytes ≡ trace_bytes → (output : List ℕ) (r : Result answer.Verdict Refused) (output' : List ℕ)
           → Delivers kind p k output r output' → (search_on program t).0 ≡ found_event kind k d
           → drop p.start p.bytes ≡ traced program.header (trail_of program.points (search_on program t).1 d)
           → Delivered (packed first_edition (begin program.header) kind (trail_of program.points (search_on program t).1 d))
@@ -165,10 +166,10 @@ module _ (program : struct.CompiledMacro) (t output : List ℕ) (n : ℕ) (r : R
   leaves : u ≡ (search_on program t).1
   leaves = f ∙ ap (λ n. (search_of program.header program.points program.count n t).1) c
 
-  abbrev Tell : Result ℕ Stop → answer.Verdict → List ℕ → Type 0
+  abbrev Tell : Result ℕ Stop → Result answer.Verdict Refused → List ℕ → Type 0
   Tell z v output' = SearchAnswered program.header program.points first_edition output z (search_on program t).1 (answer_of v) output'
 
-  told : (z : Result ℕ Stop) → r ≡ z → (v : answer.Verdict) (output' : List ℕ) → Tell z v output' → Tells program t output v output'
+  told : (z : Result ℕ Stop) → r ≡ z → (v : Result answer.Verdict Refused) (output' : List ℕ) → Tell z v output' → Tells program t output v output'
   told z y v output' = subst (λ z. Tell z v output') (sym y ∙ ends)
 
   module _ (x : HoldsMacro program) (k d : ℕ) where
@@ -177,7 +178,7 @@ module _ (program : struct.CompiledMacro) (t output : List ℕ) (n : ℕ) (r : R
         (event_written program x.0 x.1 t kind k d (sym ends ∙ y))
 
     module _ (p : Packed) (b : drop p.start p.bytes ≡ traced program.header (trail_of program.points u d)) (l : length p.bytes ≡ trace_bytes)
-        (v : answer.Verdict) (output' : List ℕ) where
+        (v : Result answer.Verdict Refused) (output' : List ℕ) where
       abbrev packed_so : drop p.start p.bytes ≡ traced program.header (trail_of program.points (search_on program t).1 d)
       packed_so = b ∙ ap (λ u. traced program.header (trail_of program.points u d)) leaves
 

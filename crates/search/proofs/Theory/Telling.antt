@@ -6,6 +6,8 @@ use native.Mathlib.Omega.{arith}
 use lib.ListN.{length}
 use Rattle.letters.specs.Editions.{first_edition}
 use Rattle.letters.specs.Capacity.{capacity_of}
+use Rattle.letters.specs.declared.reasons.Refused.{Refused}
+use Rattle.std.specs.Prelude.{Result}
 use Rattle.letters.proofs.Theory.CapacityLaws.{capacity_fits}
 use Rattle.semantics.specs.Terms.{begin}
 use Rattle.semantics.specs.Models.{Feasible}
@@ -22,7 +24,7 @@ use Rattle.search.proofs.Theory.MacroSearch.{capacity_most}
 use Rattle.search.proofs.Theory.Searched.{search_verdict}
 
 module _ (program : struct.CompiledMacro) (given : Given) (holds : held_macro given.macro ≡ program) (t : List ℕ) where
-  pub tells_verdict : (output : List ℕ) (r : answer.Verdict) (output' : List ℕ) → Tells program t output r output'
+  pub tells_verdict : (output : List ℕ) (r : Result answer.Verdict Refused) (output' : List ℕ) → Tells program t output r output'
       → IsVerdict Feasible (begin (header given)) (body given) first_edition (pairs_in first_edition t) output (answer_of r) output'
   unfolding held_macro capacity_of
   tells_verdict output r output' y =
