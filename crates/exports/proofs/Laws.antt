@@ -11,6 +11,9 @@ use Rattle.streaming.specs.declared.RunAnswer.{RunAnswer}
 use Rattle.letters.specs.Editions.{first_edition, most_letters}
 use Rattle.traces.specs.ReadingParts.{reading_within}
 use Rattle.model_writer.specs.Answer.{ShowResult, shown_answer, answer_to, output_after, Means, Showed}
+use Rattle.std.specs.Prelude.{Result, Ok, Err}
+use Rattle.letters.specs.declared.reasons.Refused as reasons
+use Rattle.letters.specs.Reasons.{number_of}
 use Rattle.syntax.specs.Reads.{Reads}
 use Rattle.syntax.specs.declared.MacroRead.{MacroRead}
 use Rattle.exports.specs.Numbers.{laid_over, run_numbers, monitored, model_numbers, modelled, model_output, ModelMeans, ReadsMacro}
@@ -87,29 +90,29 @@ read_stored text stored answer answer' a reads same full room e = record {
 
 -- ---- The verdict on a macro
 
-pub numbers_pass : (v : searched.Verdict) (pairs : ℕ) → v ≡ found.Pass pairs → 0 ∷ 0 ∷ 0 ∷ pairs ∷ 0 ∷ [] ≡ verdict_numbers (search.answer_of v)
+pub numbers_pass : (v : Result searched.Verdict reasons.Refused) (pairs : ℕ) → v ≡ Ok (found.Pass pairs) → 0 ∷ 0 ∷ 0 ∷ pairs ∷ 0 ∷ [] ≡ verdict_numbers (search.answer_of v)
 unfolding verdict_numbers
 numbers_pass v pairs e = rw e refl
 
-pub numbers_fail : (v : searched.Verdict) (pairs letters : ℕ) → v ≡ found.Fail pairs letters
+pub numbers_fail : (v : Result searched.Verdict reasons.Refused) (pairs letters : ℕ) → v ≡ Ok (found.Fail pairs letters)
     → 0 ∷ 0 ∷ 1 ∷ pairs ∷ letters ∷ [] ≡ verdict_numbers (search.answer_of v)
 unfolding verdict_numbers
 numbers_fail v pairs letters e = rw e refl
 
-pub numbers_incoherent : (v : searched.Verdict) (pairs letters : ℕ) → v ≡ found.Incoherent pairs letters
+pub numbers_incoherent : (v : Result searched.Verdict reasons.Refused) (pairs letters : ℕ) → v ≡ Ok (found.Incoherent pairs letters)
     → 0 ∷ 0 ∷ 2 ∷ pairs ∷ letters ∷ [] ≡ verdict_numbers (search.answer_of v)
 unfolding verdict_numbers
 numbers_incoherent v pairs letters e = rw e refl
 
-pub numbers_unjudged : (v : searched.Verdict) (number place : ℕ) → v ≡ found.Refused number place
-    → number ∷ place ∷ 0 ∷ 0 ∷ 0 ∷ [] ≡ verdict_numbers (search.answer_of v)
+pub numbers_unjudged : (v : Result searched.Verdict reasons.Refused) (e : reasons.Refused) (number : ℕ) → v ≡ Err e → number ≡ number_of e.reason
+    → number ∷ e.place ∷ 0 ∷ 0 ∷ 0 ∷ [] ≡ verdict_numbers (search.answer_of v)
 unfolding verdict_numbers
-numbers_unjudged v number place e = rw e refl
+numbers_unjudged v e number q g = rw (q, g) refl
 
 pub judging_short : (text table output answer : List ℕ) → length answer < 5 → Judging text table output answer table output answer
 judging_short text table output answer short = record { short = λ _. (refl, refl, refl); judged = λ room. absurd (too_short short room) }
 
-pub judging_stored : (text table output answer table' output' stored answer' : List ℕ) (v : searched.Verdict)
+pub judging_stored : (text table output answer table' output' stored answer' : List ℕ) (v : Result searched.Verdict reasons.Refused)
     → Demand3 Feasible text table output (search.answer_of v) table' output'
     → stored ≡ verdict_numbers (search.answer_of v) → length stored ≡ 5 → 5 ≤ length answer → answer' ≡ stored ++ drop (length stored) answer
     → Judging text table output answer table' output' answer'

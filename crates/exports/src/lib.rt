@@ -127,14 +127,14 @@ pub extern "C" fn fadzgime_read(text: &[u8], answer: &mut [u64])
 }
 
 // The numbers of the verdict on a macro.
-fn verdict_numbers(verdict: Verdict) -> [u64; VERDICT_NUMBERS]
+fn verdict_numbers(verdict: Result<Verdict, Refused>) -> [u64; VERDICT_NUMBERS]
     ensures { result ≡ verdict_numbers (search.answer_of verdict) }
 {
     match verdict {
-        Verdict::Pass(pairs) => [0, 0, 0, pairs as u64, 0],
-        Verdict::Fail(pairs, letters) => [0, 0, 1, pairs as u64, letters as u64],
-        Verdict::Incoherent(pairs, letters) => [0, 0, 2, pairs as u64, letters as u64],
-        Verdict::Refused(number, place) => [number as u64, place as u64, 0, 0, 0],
+        Ok(Verdict::Pass(pairs)) => [0, 0, 0, pairs as u64, 0],
+        Ok(Verdict::Fail(pairs, letters)) => [0, 0, 1, pairs as u64, letters as u64],
+        Ok(Verdict::Incoherent(pairs, letters)) => [0, 0, 2, pairs as u64, letters as u64],
+        Err(refused) => [u8::from(refused.reason) as u64, refused.place, 0, 0, 0],
     }
 }
 

@@ -1,5 +1,5 @@
 -- Document 01's worked example (SPEC 12.2), byte for byte, and a refusal.
-use Rattle.std.specs.Prelude.{◌≡◌, refl, ℕ, List, [], ◌∷◌, ◌++◌, get_or}
+use Rattle.std.specs.Prelude.{◌≡◌, refl, Ok, ℕ, List, [], ◌∷◌, ◌++◌, get_or}
 use Rattle.base.specs.Recursion.{within_calls, fixed}
 use Rattle.letters.specs.MacroRefusalNumbers.{grammar_violated}
 use Rattle.letters.specs.declared.Header.{Header}
@@ -86,7 +86,7 @@ example_bytes = 68 ∷ 128 ∷ 84 ∷ 8 ∷ 70 ∷ 0 ∷ 86 ∷ 200 ∷ 68 ∷ 1
     0 ∷ 0 ∷ 192 ∷ 64 ∷ 48 ∷ 2 ∷ 0 ∷ 224 ∷ 0 ∷ 40 ∷ 0 ∷ 1 ∷ 0 ∷ 255 ∷ 255 ∷ []
 
 -- They are read as those letters and tables.
-pub shown_example : printed_of example_header (Fail 5 5) example_bytes ≡ Printed.fail 5 example_letters example_tables
+pub shown_example : printed_of example_header (Ok (Fail 5 5)) example_bytes ≡ Printed.fail 5 example_letters example_tables
 unfolding printed_of letters_in letter_or_copy letter_at coding.decode_letter coding.named_letter coding.letter_by coding.fits_test coding.apply_test
     coding.header_test words.header_word words.letter_word read_tables units_in row_from second_meant
 shown_example = refl

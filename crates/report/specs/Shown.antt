@@ -1,16 +1,18 @@
 -- What a verdict shows, read from the bytes of its answer: the execution as a packed trace, on fail its model directly behind it (SPEC 10.7).
-use Rattle.std.specs.Prelude.{◌≡◌, Option, Some, None, ℕ, zero, suc, ◌+◌, ◌*◌, List, [], ◌∷◌, ◌++◌, leb, length, get_or, drop, take}
+use Rattle.std.specs.Prelude.{◌≡◌, Option, Some, None, Result, Ok, Err, ℕ, zero, suc, ◌+◌, ◌*◌, List, [], ◌∷◌, ◌++◌, leb, length, get_or, drop, take}
 use Rattle.base.specs.Choice.{pick}
 use Rattle.letters.specs.declared.Header.{Header}
 use Rattle.letters.specs.declared.Letter.{Letter}
 use Rattle.letters.specs.declared.Letter.TheVariants.{Copy}
 use Rattle.letters.specs.Editions.{first_edition}
 use Rattle.letters.specs.Answers.{on_answer}
+use Rattle.letters.specs.Reasons.{number_of}
+use Rattle.letters.specs.declared.reasons.Refused.{Refused}
 use Rattle.traces.specs.ReadingParts.{letter_at}
 use Rattle.semantics.specs.TablesRead.{read_tables}
 use Rattle.text.specs.Names.{name_text}
 use Rattle.report.specs.declared.ReportedVerdict.{ReportedVerdict}
-use Rattle.report.specs.declared.ReportedVerdict.TheVariants.{Pass, Incoherent, Fail, Refused}
+use Rattle.report.specs.declared.ReportedVerdict.TheVariants.{Pass, Incoherent, Fail}
 use Rattle.report.specs.Lines.{Names, Printed, report}
 use Rattle.letters.specs.Packing.{join}
 use Rattle.semantics.specs.PackedTables.{word_bytes, row_bytes}
@@ -43,15 +45,19 @@ letters_in h s k (suc n) = letter_or_copy h s k ∷ letters_in h s (k + 1) n
 abbrev pub model_start : ℕ → ℕ
 model_start n = first_edition.bytes * n + first_edition.bytes
 
--- What is printed for a verdict whose answer is in s.
-unfoldable pub printed_of : Header → ReportedVerdict → List ℕ → Printed
-printed_of h (Pass pairs) s = Printed.pass pairs
-printed_of h (Incoherent pairs n) s = Printed.incoherent pairs (letters_in h s 0 n)
-printed_of h (Fail pairs n) s = Printed.fail pairs (letters_in h s 0 n) (read_tables first_edition h (drop (model_start n) s))
-printed_of h (Refused number place) s = Printed.refused number place
+-- What a report is of: a verdict, or a refusal.
+abbrev pub Reported : Type 0
+Reported = Result ReportedVerdict Refused
 
--- The report of a verdict whose answer is in s.
-unfoldable pub report_of : List ℕ → List ℕ → Header → ReportedVerdict → List ℕ → List ℕ
+-- What is printed for a verdict whose answer is in s, or for a refusal.
+unfoldable pub printed_of : Header → Reported → List ℕ → Printed
+printed_of h (Ok (Pass pairs)) s = Printed.pass pairs
+printed_of h (Ok (Incoherent pairs n)) s = Printed.incoherent pairs (letters_in h s 0 n)
+printed_of h (Ok (Fail pairs n)) s = Printed.fail pairs (letters_in h s 0 n) (read_tables first_edition h (drop (model_start n) s))
+printed_of h (Err r) s = Printed.refused (number_of r.reason) r.place
+
+-- The report of a verdict whose answer is in s, or of a refusal.
+unfoldable pub report_of : List ℕ → List ℕ → Header → Reported → List ℕ → List ℕ
 report_of registers functions h verdict s = report (names_of registers functions) h (printed_of h verdict s)
 
 -- A text that was to be written into a buffer: it stands in front and the bytes behind it stay, or there is no room and all bytes stay.

@@ -12,6 +12,7 @@ ghost use Rattle.report.specs.Shown.{report_of, WroteText};
 ghost use Rattle.report.specs.Bound.{Limited};
 
 use letters::Header;
+use letters::reasons::Refused;
 use letters::limits::{MOST_FUNCTIONS, MOST_REGISTERS};
 use text::Writer;
 
@@ -27,8 +28,6 @@ pub enum ReportedVerdict {
     Incoherent(u64, u16),
     /// Fail, with the numbers of pairs and of letters in the answer.
     Fail(u64, u16),
-    /// A refusal, its number and its place.
-    Refused(u8, u64),
 }
 
 /// What a macro declares: the names of its registers and functions, and its header. A name is held as a number, its bytes the digits to base
@@ -45,23 +44,25 @@ pub struct Declared {
 
 // The verdict as it is, with what the types of its numbers say of them. It stands although it gives back what it takes: of a number in an enum the check
 // knows the range in an arm alone (tried without it, and the proof did not close).
-fn limited(verdict: ReportedVerdict) -> ReportedVerdict
+fn limited(verdict: Result<ReportedVerdict, Refused>) -> Result<ReportedVerdict, Refused>
     ensures same { result ≡ verdict }
     ensures limits { Limited result }
 {
     match verdict {
-        ReportedVerdict::Pass(pairs) => ReportedVerdict::Pass(pairs),
-        ReportedVerdict::Incoherent(pairs, letters) => ReportedVerdict::Incoherent(pairs, letters),
-        ReportedVerdict::Fail(pairs, letters) => ReportedVerdict::Fail(pairs, letters),
-        ReportedVerdict::Refused(number, place) => ReportedVerdict::Refused(number, place),
+        Ok(ReportedVerdict::Pass(pairs)) => Ok(ReportedVerdict::Pass(pairs)),
+        Ok(ReportedVerdict::Incoherent(pairs, letters)) => {
+            Ok(ReportedVerdict::Incoherent(pairs, letters))
+        }
+        Ok(ReportedVerdict::Fail(pairs, letters)) => Ok(ReportedVerdict::Fail(pairs, letters)),
+        Err(refused) => Err(refused.reason.at(refused.place)),
     }
 }
 
-/// Writes the report of a verdict, and gives how many bytes it has; where it does not fit the buffer nothing is written.
+/// Writes the report of a verdict or of a refusal, and gives how many bytes it has; where it does not fit the buffer nothing is written.
 /// `answer` holds the execution as a packed trace, on fail its model directly behind it; what lies behind these is not read.
 pub fn write_report(
     declared: Declared,
-    verdict: ReportedVerdict,
+    verdict: Result<ReportedVerdict, Refused>,
     answer: &[u8],
     out: &mut [u8],
 ) -> Option<usize>

@@ -15,6 +15,7 @@ ghost use Rattle.report.specs.Shown.{word_values};
 use super::answer::{ROW_BYTES, WORD_BYTES, letter_of, row_at, word_at};
 use super::{Declared, ReportedVerdict};
 use letters::Letter;
+use letters::reasons::Refused;
 use letters::words::takes_two;
 use text::Writer;
 
@@ -222,32 +223,33 @@ impl Declared {
     }
 
     // Appends the whole report of a verdict.
-    fn put_report(&self, writer: &mut Writer, verdict: ReportedVerdict, answer: &[u8])
+    fn put_report(&self, writer: &mut Writer, verdict: Result<ReportedVerdict, Refused>, answer: &[u8])
         requires { PlaceInRange writer.old.at (report_of self.now.registers self.now.functions self.now.header verdict answer.now) }
         ensures same_buffer { writer.new.out.ghost_name ≡ writer.old.out.ghost_name }
         ensures appended { Appended writer.old.out.now writer.old.at
             (report_of self.now.registers self.now.functions self.now.header verdict answer.now) writer.new.out.now writer.new.at }
     {
         match verdict {
-            ReportedVerdict::Pass(pairs) => put_verdict(writer, b"verdict pass\n", pairs),
-            ReportedVerdict::Incoherent(pairs, letters) => {
+            Ok(ReportedVerdict::Pass(pairs)) => put_verdict(writer, b"verdict pass\n", pairs),
+            Ok(ReportedVerdict::Incoherent(pairs, letters)) => {
                 put_verdict(writer, b"verdict incoherent\n", pairs);
                 self.put_execution(writer, answer, letters);
             }
-            ReportedVerdict::Fail(pairs, letters) => {
+            Ok(ReportedVerdict::Fail(pairs, letters)) => {
                 put_verdict(writer, b"verdict fail\n", pairs);
                 self.put_execution(writer, answer, letters);
                 let start = WORD_SIZE * u32::from(letters) + WORD_SIZE;
                 self.put_model(writer, answer, start);
             }
-            ReportedVerdict::Refused(number, place) => {
-                writer.put_line(b"refused 4 at 5\n", [u64::from(number), place, 0, 0]);
+            Err(refused) => {
+                let number = u8::from(refused.reason);
+                writer.put_line(b"refused 4 at 5\n", [u64::from(number), refused.place, 0, 0]);
             }
         }
     }
 
     /// Puts the whole report of a verdict into the front of a buffer, as far as the buffer goes, and gives how many bytes it has.
-    pub(super) fn put_whole(&self, verdict: ReportedVerdict, answer: &[u8], out: &mut [u8]) -> usize
+    pub(super) fn put_whole(&self, verdict: Result<ReportedVerdict, Refused>, answer: &[u8], out: &mut [u8]) -> usize
         requires { PlaceInRange 0 (report_of self.now.registers self.now.functions self.now.header verdict answer.now) }
         ensures { Appended out.old 0 (report_of self.now.registers self.now.functions self.now.header verdict answer.now) out.new result }
     {

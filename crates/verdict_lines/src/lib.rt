@@ -9,7 +9,9 @@ ghost use Rattle.verdict_lines.specs.Answered.{AnswersMacroInput};
 ghost use Rattle.verdict_lines.specs.Reported.{reported as reportedOf, Reports};
 
 use files::{Input, Source, Unread};
-use report::{Declared, WORD_VALUES};
+use letters::reasons::Refused;
+use report::{Declared, ReportedVerdict, WORD_VALUES};
+use search::Verdict;
 use std::io::Read;
 use syntax::LONGEST_TEXT;
 
@@ -34,28 +36,28 @@ pub fn line_space() -> [u8; MOST_BYTES]
 }
 
 // The verdict as the report takes it.
-fn reported(verdict: search::Verdict) -> report::ReportedVerdict
+fn reported(verdict: Result<Verdict, Refused>) -> Result<ReportedVerdict, Refused>
     ensures { (result ≡ reportedOf verdict) × Limited result }
 {
     match verdict {
-        search::Verdict::Pass(pairs) => report::ReportedVerdict::Pass(pairs as u64),
-        search::Verdict::Fail(pairs, letters) => report::ReportedVerdict::Fail(
-            pairs as u64,
-            (letters % WORD_VALUES) as u16,
-        ),
-        search::Verdict::Incoherent(pairs, letters) => report::ReportedVerdict::Incoherent(
-            pairs as u64,
-            (letters % WORD_VALUES) as u16,
-        ),
-        search::Verdict::Refused(number, place) => report::ReportedVerdict::Refused(
-            number,
-            place as u64,
-        ),
+        Ok(Verdict::Pass(pairs)) => Ok(ReportedVerdict::Pass(pairs as u64)),
+        Ok(Verdict::Fail(pairs, letters)) => {
+            Ok(ReportedVerdict::Fail(pairs as u64, (letters % WORD_VALUES) as u16))
+        }
+        Ok(Verdict::Incoherent(pairs, letters)) => {
+            Ok(ReportedVerdict::Incoherent(pairs as u64, (letters % WORD_VALUES) as u16))
+        }
+        Err(refused) => Err(refused),
     }
 }
 
 // Writes the report of a verdict on a text, with the names that the text declares. The answer holds what the verdict shows.
-fn write_verdict(text: &[u8], verdict: search::Verdict, answer: &[u8], lines: &mut [u8]) -> usize
+fn write_verdict(
+    text: &[u8],
+    verdict: Result<Verdict, Refused>,
+    answer: &[u8],
+    lines: &mut [u8],
+) -> usize
     ensures { Reports text.now verdict answer.now lines.old result lines.new }
 {
     let read = syntax::read(text);

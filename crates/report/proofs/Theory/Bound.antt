@@ -18,8 +18,14 @@ use Rattle.text.specs.Numerals.{numeral}
 use Rattle.text.proofs.Theory.Numerals.{numeral_length, long_number}
 use Rattle.text.proofs.Theory.Names.{name_length}
 use Rattle.text.specs.Appending.{PlaceInRange}
-use Rattle.report.specs.declared.ReportedVerdict.{ReportedVerdict}
-use Rattle.report.specs.declared.ReportedVerdict.TheVariants.{Pass, Incoherent, Fail, Refused}
+use Rattle.std.specs.Prelude.{Ok, Err}
+use Rattle.letters.specs.Reasons.{number_of}
+use Rattle.letters.specs.declared.reasons.Reason.{Reason}
+use Rattle.letters.specs.declared.reasons.Reason.TheVariants.{TraceTooShort, TraceOddLength, HeaderMalformed, LetterMalformed, TraceTooLong, OutputTooSmall}
+use Rattle.letters.specs.declared.reasons.Reason.TheVariants.{TextTooLong, TokenMalformed, GrammarViolated, DeclarationWrong, UseWrong, NestingTooDeep}
+use Rattle.letters.specs.declared.reasons.Reason.TheVariants.{PointsTooMany, TableTooSmall, PrintTooLong, NoRoomForTests}
+use Rattle.report.specs.Shown.{Reported}
+use Rattle.report.specs.declared.ReportedVerdict.TheVariants.{Pass, Incoherent, Fail}
 use Rattle.report.specs.Lines.{Names, values_word, pass_word, incoherent_word, fail_word, line, lines_of, letter_line, start_lines, row_line}
 use Rattle.report.specs.Lines.{verdict_lines, letter_lines, model_lines, refused_line, report}
 use Rattle.report.specs.Shown.{names_of, letters_in, model_start, printed_of, report_of}
@@ -27,7 +33,25 @@ use Rattle.report.proofs.Theory.ShownLaws.{units_count, second_read, letters_len
 use Rattle.report.specs.Shown.{word_at}
 use Rattle.report.specs.Bound.{Limited, letter_number, row_number}
 
-abbrev pub bound : Header → ReportedVerdict → List ℕ → ℕ
+number_small : (r : Reason) → number_of r < 256
+number_small TraceTooShort = omega arith
+number_small TraceOddLength = omega arith
+number_small HeaderMalformed = omega arith
+number_small LetterMalformed = omega arith
+number_small TraceTooLong = omega arith
+number_small OutputTooSmall = omega arith
+number_small TextTooLong = omega arith
+number_small TokenMalformed = omega arith
+number_small GrammarViolated = omega arith
+number_small DeclarationWrong = omega arith
+number_small UseWrong = omega arith
+number_small NestingTooDeep = omega arith
+number_small PointsTooMany = omega arith
+number_small TableTooSmall = omega arith
+number_small PrintTooLong = omega arith
+number_small NoRoomForTests = omega arith
+
+abbrev pub bound : Header → Reported → List ℕ → ℕ
 bound h v s = 67 + 40 * letter_number v + 21 * h.registers + 28 * row_number v s
 
 -- ── numbers ──
@@ -143,13 +167,13 @@ module _ (names : Names) (reg : (r : ℕ) → length (names.register r) ≤ 8) (
     unfolding line
     refusal_length number place a c = simp length-append (omega (arith, byte_number number a, long_number place c))
 
-    shown_length : (v : ReportedVerdict) → Limited v → length (report names h (printed_of h v s)) ≤ bound h v s
+    shown_length : (v : Reported) → Limited v → length (report names h (printed_of h v s)) ≤ bound h v s
     unfolding report printed_of
-    shown_length (Pass pairs) l = omega (arith, verdict_length pass_word pairs l)
-    shown_length (Incoherent pairs n) l = simp length-append (omega (arith, verdict_length incoherent_word pairs l.0, execution_length n l.1))
-    shown_length (Fail pairs n) l =
+    shown_length (Ok (Pass pairs)) l = omega (arith, verdict_length pass_word pairs l)
+    shown_length (Ok (Incoherent pairs n)) l = simp length-append (omega (arith, verdict_length incoherent_word pairs l.0, execution_length n l.1))
+    shown_length (Ok (Fail pairs n)) l =
         simp length-append (omega (arith, verdict_length fail_word pairs l.0, execution_length n l.1, model_length (model_start n)))
-    shown_length (Refused number place) l = omega (arith, refusal_length number place l.0 l.1)
+    shown_length (Err r) l = omega (arith, refusal_length (number_of r.reason) r.place (number_small r.reason) l)
 
 -- ── the line of a refusal by itself ──
 
@@ -166,28 +190,28 @@ refused_few w number place h l = simp length-append (omega (arith, w, long_numbe
 module _ (registers functions : List ℕ) (reg : (r : ℕ) → get_or registers r 0 < 2 ^ 64) (fun : (f : ℕ) → get_or functions f 0 < 2 ^ 64)
     (h : Header) (s : List ℕ)
     (b : (i : ℕ) → get_or s i 0 < 256) where
-  pub report_length : (v : ReportedVerdict) → Limited v → length (report_of registers functions h v s) ≤ bound h v s
+  pub report_length : (v : Reported) → Limited v → length (report_of registers functions h v s) ≤ bound h v s
   unfolding report_of
   report_length v l = shown_length (names_of registers functions) (λ r. name_length 8 (get_or registers r 0) (reg r))
       (λ f. name_length 8 (get_or functions f 0) (fun f)) h s b v l
 
   -- The number of bytes is one that the machine has.
-  pub report_room : (v : ReportedVerdict) → Limited v → h.registers < 256 → PlaceInRange 0 (report_of registers functions h v s)
+  pub report_room : (v : Reported) → Limited v → h.registers < 256 → PlaceInRange 0 (report_of registers functions h v s)
   report_room v l g = record { fits = omega (arith, report_length v l, letters_few v l, rows_few v) }
     where
-      letters_few : (v : ReportedVerdict) → Limited v → letter_number v < 65536
-      letters_few (Pass pairs) l = omega arith
-      letters_few (Incoherent pairs n) l = l.1
-      letters_few (Fail pairs n) l = l.1
-      letters_few (Refused number place) l = omega arith
+      letters_few : (v : Reported) → Limited v → letter_number v < 65536
+      letters_few (Ok (Pass pairs)) l = omega arith
+      letters_few (Ok (Incoherent pairs n)) l = l.1
+      letters_few (Ok (Fail pairs n)) l = l.1
+      letters_few (Err r) l = omega arith
 
-      rows_few : (v : ReportedVerdict) → row_number v s < 65536
-      rows_few (Pass pairs) = omega arith
-      rows_few (Incoherent pairs n) = omega arith
-      rows_few (Fail pairs n) = word_small s b (model_start n + 2)
-      rows_few (Refused number place) = omega arith
+      rows_few : (v : Reported) → row_number v s < 65536
+      rows_few (Ok (Pass pairs)) = omega arith
+      rows_few (Ok (Incoherent pairs n)) = omega arith
+      rows_few (Ok (Fail pairs n)) = word_small s b (model_start n + 2)
+      rows_few (Err r) = omega arith
 
   -- With at most 341 letters, 349 rows and 8 registers, as the verdict program has them, 32,768 bytes suffice.
-  pub report_fits : (v : ReportedVerdict) → Limited v → letter_number v ≤ 341 → row_number v s ≤ 349 → h.registers ≤ 8
+  pub report_fits : (v : Reported) → Limited v → letter_number v ≤ 341 → row_number v s ≤ 349 → h.registers ≤ 8
       → length (report_of registers functions h v s) ≤ 32768
   report_fits v l n m r = omega (arith, report_length v l)

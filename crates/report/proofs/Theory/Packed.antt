@@ -23,6 +23,7 @@ use Rattle.semantics.specs.Tables.{Tables}
 use Rattle.semantics.specs.TablesRead.{units_in, row_from, read_tables, Packable}
 use Rattle.semantics.specs.PackedTables.{pack_tables}
 use Rattle.semantics.proofs.Theory.PackedTablesLaws.{packed_length, read_packed}
+use Rattle.std.specs.Prelude.{Ok}
 use Rattle.report.specs.declared.ReportedVerdict.TheVariants.{Incoherent, Fail}
 use Rattle.report.specs.Lines.{Printed, report}
 use Rattle.report.proofs.Theory.ShownLaws.{units_count}
@@ -105,7 +106,7 @@ module _ (h : Header) (ls : List Letter) (v : HeaderFits first_edition h) (f : A
 
   -- The report of an incoherent execution.
   pub incoherent_report : (registers functions : List ℕ) (pairs : ℕ)
-      → report_of registers functions h (Incoherent pairs (length ls)) (packing first_edition h ls ++ rest) ≡ report (names_of registers functions) h
+      → report_of registers functions h (Ok (Incoherent pairs (length ls))) (packing first_edition h ls ++ rest) ≡ report (names_of registers functions) h
       (Printed.incoherent pairs ls)
   unfolding report_of printed_of
   incoherent_report registers functions pairs = ap (λ (l : List Letter). report (names_of registers functions) h (Printed.incoherent pairs l)) packed_letters
@@ -182,7 +183,7 @@ module _ (h : Header) (ls : List Letter) (t : Tables) (rest : List ℕ) (v : Hea
 
   -- The report of a failing execution with its model.
   pub fail_report : (registers functions : List ℕ) (pairs : ℕ)
-      → report_of registers functions h (Fail pairs (length ls)) (packing first_edition h ls ++ (pack_tables first_edition h t ++ rest)) ≡ report
+      → report_of registers functions h (Ok (Fail pairs (length ls))) (packing first_edition h ls ++ (pack_tables first_edition h t ++ rest)) ≡ report
       (names_of registers functions) h (Printed.fail pairs ls t)
   unfolding report_of printed_of
   fail_report registers functions pairs =

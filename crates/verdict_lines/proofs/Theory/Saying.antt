@@ -34,8 +34,9 @@ use Rattle.verdict_theory.specs.Verdict.{full, IsPass, Kind, breaking, failing, 
 use Rattle.verdict_theory.specs.AnswerPacking.{packed}
 use Rattle.verdict_theory.specs.Verdict as verdict
 use Rattle.verdict_theory.specs.Demand3.{pairs_in, Demand3}
-use Rattle.search.specs.declared.Verdict as search
-use Rattle.search.specs.declared.Verdict.TheVariants.{Pass, Fail, Incoherent, Refused}
+use Rattle.std.specs.Prelude.{Ok, Err}
+use Rattle.letters.specs.Reasons.{number_of}
+use Rattle.search.specs.declared.Verdict.TheVariants.{Pass, Fail, Incoherent}
 use Rattle.search.specs.Answering.{answer_of}
 use Rattle.text.specs.Names.{name_text}
 use Rattle.text.specs.Numerals.{numeral}
@@ -50,7 +51,7 @@ use Rattle.verdict_lines.specs.Prints.{table_bytes, table_pairs, answer_bytes, T
 use Rattle.search.proofs.Theory.MacroSearch.{header_fits}
 use Rattle.verdict_lines.proofs.Theory.Answers.{event_model, showing_refused, letters_fit, rows_few, packable, count_few, event_shown}
 use Rattle.verdict_lines.proofs.Theory.Declared.{names_declared}
-use Rattle.verdict_lines.specs.Reported.{reported, report_for, Reports, most_rows}
+use Rattle.verdict_lines.specs.Reported.{Searched, reported, report_for, Reports, most_rows}
 
 -- ── names with 0 behind them ──
 none_at : (n r : ℕ) → ◌≡◌ {A = ℕ} (get_or (replicate n 0) r 0) 0
@@ -74,7 +75,7 @@ names_held m = λ i. record {
 }
 
 -- ── what is told, and that it is short ──
-record Right (m : Macro) (v : search.Verdict) (s : List ℕ) : Type 0 where
+record Right (m : Macro) (v : Searched) (s : List ℕ) : Type 0 where
   told : Printed
   is_told : Told m told
   lines : report_of (shown_registers m) m.function_spellings (header_of m) (reported v) s ≡ report (held_names m) (header_of m) told
@@ -94,7 +95,7 @@ full_or n p = go (same_or n table_too_small) (same_or p 0)
 
 module _ (m : Macro) (o : InOrder m) (points : size_block (expanded m) ≤ most_points) (output : List ℕ)
     (room : length output ≡ answer_bytes) (output' : List ℕ) where
-  abbrev Judged : search.Verdict → Type 0
+  abbrev Judged : Searched → Type 0
   Judged v = IsVerdict Feasible (begin (header_of m)) (expanded m) first_edition table_pairs output (answer_of v) output'
 
   -- the event is packed in front of the output
@@ -107,12 +108,12 @@ module _ (m : Macro) (o : InOrder m) (points : size_block (expanded m) ≤ most_
 
     -- what is told of an event that is shown
     incoherent_right : Shows Feasible (begin (header_of m)) (expanded m) breaking pairs ls → pairs ≤ table_pairs
-        → Front breaking ls → Right m (Incoherent k l) output'
+        → Front breaking ls → Right m (Ok (Incoherent k l)) output'
     unfolding Told reported packed
     incoherent_right s c b = record {
       told = printed.incoherent pairs ls;
       is_told = (s, c);
-      lines = (λ i. report_of (shown_registers m) m.function_spellings (header_of m) (report.Incoherent (e i) (same i)) (b i))
+      lines = (λ i. report_of (shown_registers m) m.function_spellings (header_of m) (Ok (report.Incoherent (e i) (same i))) (b i))
           ∙ incoherent_report (header_of m) ls (header_fits m o) (letters_fit m o breaking ls s.of_kind) rest
           (shown_registers m) m.function_spellings pairs;
       letters = omega arith;
@@ -123,12 +124,12 @@ module _ (m : Macro) (o : InOrder m) (points : size_block (expanded m) ≤ most_
         rest = drop (length (packing first_edition (header_of m) ls)) output
 
     fail_right : Shows Feasible (begin (header_of m)) (expanded m) failing pairs ls → pairs ≤ table_pairs
-        → Front failing ls → Right m (Fail k l) output'
+        → Front failing ls → Right m (Ok (Fail k l)) output'
     unfolding Told reported packed
     fail_right s c b = record {
       told = printed.fail pairs ls tables;
       is_told = (s, c, event_model m o pairs ls s);
-      lines = (λ i. report_of (shown_registers m) m.function_spellings (header_of m) (report.Fail (e i) (same i)) (stands i))
+      lines = (λ i. report_of (shown_registers m) m.function_spellings (header_of m) (Ok (report.Fail (e i) (same i))) (stands i))
           ∙ fail_report (header_of m) ls tables rest (header_fits m o) (letters_fit m o failing ls s.of_kind) fits
           (shown_registers m) m.function_spellings pairs;
       letters = omega arith;
@@ -150,31 +151,31 @@ module _ (m : Macro) (o : InOrder m) (points : size_block (expanded m) ≤ most_
         stands : output' ≡ trace ++ (pack_tables first_edition (header_of m) tables ++ rest)
         stands = b ∙ append_assoc trace (pack_tables first_edition (header_of m) tables) rest
 
-        counted : row_number (report.Fail k (l % word_values)) output' ≡ length tables.rows
-        counted = (λ i. row_number (report.Fail (e i) (same i)) (stands i))
+        counted : row_number (Ok (report.Fail k (l % word_values))) output' ≡ length tables.rows
+        counted = (λ i. row_number (Ok (report.Fail (e i) (same i))) (stands i))
             ∙ packed_rows (header_of m) ls tables rest (header_fits m o) (letters_fit m o failing ls s.of_kind) fits
 
-  shown_right : (v : search.Verdict) (kind : Kind) (pairs : ℕ) (ls : List Letter) → Shows Feasible (begin (header_of m)) (expanded m) kind pairs ls
+  shown_right : (v : Searched) (kind : Kind) (pairs : ℕ) (ls : List Letter) → Shows Feasible (begin (header_of m)) (expanded m) kind pairs ls
       → pairs ≤ table_pairs → length ls ≤ table_pairs
       → answer_of v ≡ showing kind pairs (length ls) → Front kind ls → Right m v output'
-  shown_right (Incoherent k l) breaking pairs ls s c few e b = incoherent_right k l pairs ls few (cc) (cc) s c b
-  shown_right (Fail k l) failing pairs ls s c few e b = fail_right k l pairs ls few (cc) (cc) s c b
-  shown_right (Incoherent k l) failing pairs ls s c few e b = absurd (let z : ◌≡◌ {A = ℕ} 0 1 = cc in omega arith)
-  shown_right (Fail k l) breaking pairs ls s c few e b = absurd (let z : ◌≡◌ {A = ℕ} 0 1 = cc in omega arith)
-  shown_right (Pass k) breaking pairs ls s c few e b = absurd (let z : ◌≡◌ {A = ℕ} 0 1 = cc in omega arith)
-  shown_right (Pass k) failing pairs ls s c few e b = absurd (let z : ◌≡◌ {A = ℕ} 0 1 = cc in omega arith)
-  shown_right (Refused n p) kind pairs ls s c few e b = absurd (showing_refused kind pairs (length ls) n p (sym e))
+  shown_right (Ok (Incoherent k l)) breaking pairs ls s c few e b = incoherent_right k l pairs ls few (cc) (cc) s c b
+  shown_right (Ok (Fail k l)) failing pairs ls s c few e b = fail_right k l pairs ls few (cc) (cc) s c b
+  shown_right (Ok (Incoherent k l)) failing pairs ls s c few e b = absurd (let z : ◌≡◌ {A = ℕ} 0 1 = cc in omega arith)
+  shown_right (Ok (Fail k l)) breaking pairs ls s c few e b = absurd (let z : ◌≡◌ {A = ℕ} 0 1 = cc in omega arith)
+  shown_right (Ok (Pass k)) breaking pairs ls s c few e b = absurd (let z : ◌≡◌ {A = ℕ} 0 1 = cc in omega arith)
+  shown_right (Ok (Pass k)) failing pairs ls s c few e b = absurd (let z : ◌≡◌ {A = ℕ} 0 1 = cc in omega arith)
+  shown_right (Err r) kind pairs ls s c few e b = absurd (showing_refused kind pairs (length ls) (number_of r.reason) r.place (sym e))
 
-  event_right : (v : search.Verdict) → Judged v → answer_of v ≢ full → ¬ IsPass (answer_of v) → Right m v output'
+  event_right : (v : Searched) → Judged v → answer_of v ≢ full → ¬ IsPass (answer_of v) → Right m v output'
   event_right v j u w =
       let x = event_shown m o points output room (answer_of v) output' j u w in
       shown_right v x.kind x.pairs x.letters x.shows x.pairs_few x.letters_few x.told x.bytes
 
-  right : (v : search.Verdict) → Judged v → Right m v output'
+  right : (v : Searched) → Judged v → Right m v output'
   unfolding Told reported report_of printed_of report
-  right (Fail k l) j = event_right (Fail k l) j (λ e. let z : ◌≡◌ {A = ℕ} 0 1 = cc in omega arith) (λ p. p)
-  right (Incoherent k l) j = event_right (Incoherent k l) j (λ e. let z : ◌≡◌ {A = ℕ} 0 1 = cc in omega arith) (λ p. p)
-  right (Pass k) j = record {
+  right (Ok (Fail k l)) j = event_right (Ok (Fail k l)) j (λ e. let z : ◌≡◌ {A = ℕ} 0 1 = cc in omega arith) (λ p. p)
+  right (Ok (Incoherent k l)) j = event_right (Ok (Incoherent k l)) j (λ e. let z : ◌≡◌ {A = ℕ} 0 1 = cc in omega arith) (λ p. p)
+  right (Ok (Pass k)) j = record {
     told = printed.pass k;
     is_told = (
       (j.pass_count k refl).0,
@@ -190,21 +191,21 @@ module _ (m : Macro) (o : InOrder m) (points : size_block (expanded m) ≤ most_
     where
       other : verdict.pass k ≢ full
       other e = let z : ◌≡◌ {A = ℕ} 0 1 = cc in omega arith
-  right (Refused n p) j = go (full_or n p)
+  right (Err r) j = go (full_or (number_of r.reason) r.place)
     where
-      go : ((n ≡ table_too_small) × (p ≡ 0)) ⊎ (verdict.refused n p ≢ full) → Right m (Refused n p) output'
+      go : ((number_of r.reason ≡ table_too_small) × (r.place ≡ 0)) ⊎ (verdict.refused (number_of r.reason) r.place ≢ full) → Right m (Err r) output'
       go (inl (e, f)) = record {
-        told = printed.refused n p;
+        told = printed.refused (number_of r.reason) r.place;
         is_told = (e, f, j.full_exactly.0 (λ i. verdict.refused (e i) (f i)));
         lines = refl;
         letters = omega arith;
         rows = omega arith;
       }
-      go (inr u) = event_right (Refused n p) j u (λ w. w)
+      go (inr u) = event_right (Err r) j u (λ w. w)
 
 -- ── a text, and what the reader answers ──
 module _ (text : List ℕ) (read : syntax.MacroRead) (reads : Reads text read) where
-  report_is : (m : Macro) (v : search.Verdict) (s : List ℕ) → Accepted text m
+  report_is : (m : Macro) (v : Searched) (s : List ℕ) → Accepted text m
       → report_for read.program v s ≡ report_of (shown_registers m) m.function_spellings (header_of m) (reported v) s
   unfolding report_for report_of held_macro
   report_is m v s a =
@@ -219,32 +220,32 @@ module _ (text : List ℕ) (read : syntax.MacroRead) (reads : Reads text read) w
       omega arith
 
   -- What a report needs to be short.
-  abbrev Brief : search.Verdict → List ℕ → Type 0
+  abbrev Brief : Searched → List ℕ → Type 0
   Brief v s = (letter_number (reported v) ≤ table_pairs) × (row_number (reported v) s ≤ most_rows) × (read.program.header.registers ≤ most_registers)
 
   -- a refusal of the text
   module _ (number place : ℕ) (s : List ℕ) (r : Refusal text number place) where
-    refused_report : (v : search.Verdict) → answer_of v ≡ verdict.refused number place
+    refused_report : (v : Searched) → answer_of v ≡ verdict.refused number place
         → report_for read.program v s ≡ line (refused_word ∷ numeral number ∷ at_word ∷ numeral place ∷ [])
     unfolding report_for reported report_of printed_of report
-    refused_report (Refused n p) f =
-        let i : n ≡ number = cc in
-        let j : p ≡ place = cc in
+    refused_report (Err d) f =
+        let i : number_of d.reason ≡ number = cc in
+        let j : d.place ≡ place = cc in
         λ k. line (refused_word ∷ numeral (i k) ∷ at_word ∷ numeral (j k) ∷ [])
-    refused_report (Pass k) f = absurd (let z : ◌≡◌ {A = ℕ} 0 1 = cc in omega arith)
-    refused_report (Fail k l) f = absurd (let z : ◌≡◌ {A = ℕ} 0 1 = cc in omega arith)
-    refused_report (Incoherent k l) f = absurd (let z : ◌≡◌ {A = ℕ} 0 1 = cc in omega arith)
+    refused_report (Ok (Pass k)) f = absurd (let z : ◌≡◌ {A = ℕ} 0 1 = cc in omega arith)
+    refused_report (Ok (Fail k l)) f = absurd (let z : ◌≡◌ {A = ℕ} 0 1 = cc in omega arith)
+    refused_report (Ok (Incoherent k l)) f = absurd (let z : ◌≡◌ {A = ℕ} 0 1 = cc in omega arith)
 
-    refused_brief : (v : search.Verdict) → answer_of v ≡ verdict.refused number place → Brief v s
+    refused_brief : (v : Searched) → answer_of v ≡ verdict.refused number place → Brief v s
     unfolding reported
-    refused_brief (Refused n p) f =
+    refused_brief (Err d) f =
         let z = ap (λ (p : held.CompiledMacro). p.header.registers) (reads.refuses number place r).2 in
         (omega arith, omega arith, omega arith)
-    refused_brief (Pass k) f = absurd (let z : ◌≡◌ {A = ℕ} 0 1 = cc in omega arith)
-    refused_brief (Fail k l) f = absurd (let z : ◌≡◌ {A = ℕ} 0 1 = cc in omega arith)
-    refused_brief (Incoherent k l) f = absurd (let z : ◌≡◌ {A = ℕ} 0 1 = cc in omega arith)
+    refused_brief (Ok (Pass k)) f = absurd (let z : ◌≡◌ {A = ℕ} 0 1 = cc in omega arith)
+    refused_brief (Ok (Fail k l)) f = absurd (let z : ◌≡◌ {A = ℕ} 0 1 = cc in omega arith)
+    refused_brief (Ok (Incoherent k l)) f = absurd (let z : ◌≡◌ {A = ℕ} 0 1 = cc in omega arith)
 
-module _ (text table output : List ℕ) (size : length table ≡ table_bytes) (room : length output ≡ answer_bytes) (v : search.Verdict) (table' output' : List ℕ)
+module _ (text table output : List ℕ) (size : length table ≡ table_bytes) (room : length output ≡ answer_bytes) (v : Searched) (table' output' : List ℕ)
     (demand : Demand3 Feasible text table output (answer_of v) table' output') where
   pairs : pairs_in first_edition table ≡ table_pairs
   unfolding capacity_of

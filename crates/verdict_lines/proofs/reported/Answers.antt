@@ -1,19 +1,26 @@
-use Rattle.std.proofs.Common.{rules, sym, ap}
+use Rattle.std.proofs.Common.{rules, sym, ap, ◌≡◌, Ok}
+use Rattle.search.specs.declared.Verdict.TheVariants.{Pass, Fail, Incoherent}
 use Rattle.verdict_lines.specs.Reported.{reported}
 use Rattle.verdict_lines.proofs.reported.Goals as goal
 
-pub returns-in-Pass : goal.returns-in-Pass
+pub returns-in-Ok-Pass : goal.returns-in-Ok-Pass
 unfolding reported
-returns-in-Pass c = (ap reported (sym c.in-Pass.is), search rules)
+returns-in-Ok-Pass c =
+    let was : c.args.verdict ≡ Ok (Pass c.in-Ok-Pass.pairs) = search rules in
+    (ap reported (sym was), search rules)
 
-pub returns-in-Fail : goal.returns-in-Fail
+pub returns-in-Ok-Fail : goal.returns-in-Ok-Fail
 unfolding reported
-returns-in-Fail c = (ap reported (sym c.in-Fail.is), (search rules, search rules))
+returns-in-Ok-Fail c =
+    let was : c.args.verdict ≡ Ok (Fail c.in-Ok-Fail.pairs c.in-Ok-Fail.letters) = search rules in
+    (ap reported (sym was), (search rules, search rules))
 
-pub returns-in-Incoherent : goal.returns-in-Incoherent
+pub returns-in-Ok-Incoherent : goal.returns-in-Ok-Incoherent
 unfolding reported
-returns-in-Incoherent c = (ap reported (sym c.in-Incoherent.is), (search rules, search rules))
+returns-in-Ok-Incoherent c =
+    let was : c.args.verdict ≡ Ok (Incoherent c.in-Ok-Incoherent.pairs c.in-Ok-Incoherent.letters) = search rules in
+    (ap reported (sym was), (search rules, search rules))
 
-pub returns-in-Refused : goal.returns-in-Refused
+pub returns-in-Err : goal.returns-in-Err
 unfolding reported
-returns-in-Refused c = (ap reported (sym c.in-Refused.is), (search rules, search rules))
+returns-in-Err c = (ap reported (sym c.in-Err.is), search rules)
