@@ -12,8 +12,8 @@ ghost use Rattle.report.specs.Shown.{report_of, WroteText};
 ghost use Rattle.report.specs.Bound.{Limited};
 
 use letters::Header;
-use letters::reasons::Refused;
 use letters::limits::{MOST_FUNCTIONS, MOST_REGISTERS};
+use letters::reasons::Refused;
 use text::Writer;
 
 /// How many numbers a word of two bytes holds. A verdict has fewer letters.

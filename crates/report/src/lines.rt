@@ -223,7 +223,12 @@ impl Declared {
     }
 
     // Appends the whole report of a verdict.
-    fn put_report(&self, writer: &mut Writer, verdict: Result<ReportedVerdict, Refused>, answer: &[u8])
+    fn put_report(
+        &self,
+        writer: &mut Writer,
+        verdict: Result<ReportedVerdict, Refused>,
+        answer: &[u8],
+    )
         requires { PlaceInRange writer.old.at (report_of self.now.registers self.now.functions self.now.header verdict answer.now) }
         ensures same_buffer { writer.new.out.ghost_name ≡ writer.old.out.ghost_name }
         ensures appended { Appended writer.old.out.now writer.old.at
@@ -243,13 +248,21 @@ impl Declared {
             }
             Err(refused) => {
                 let number = u8::from(refused.reason);
-                writer.put_line(b"refused 4 at 5\n", [u64::from(number), refused.place, 0, 0]);
+                writer.put_line(
+                    b"refused 4 at 5\n",
+                    [u64::from(number), refused.place, 0, 0],
+                );
             }
         }
     }
 
     /// Puts the whole report of a verdict into the front of a buffer, as far as the buffer goes, and gives how many bytes it has.
-    pub(super) fn put_whole(&self, verdict: Result<ReportedVerdict, Refused>, answer: &[u8], out: &mut [u8]) -> usize
+    pub(super) fn put_whole(
+        &self,
+        verdict: Result<ReportedVerdict, Refused>,
+        answer: &[u8],
+        out: &mut [u8],
+    ) -> usize
         requires { PlaceInRange 0 (report_of self.now.registers self.now.functions self.now.header verdict answer.now) }
         ensures { Appended out.old 0 (report_of self.now.registers self.now.functions self.now.header verdict answer.now) out.new result }
     {
