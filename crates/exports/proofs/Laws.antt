@@ -90,7 +90,8 @@ read_stored text stored answer answer' a reads same full room e = record {
 
 -- ---- The verdict on a macro
 
-pub numbers_pass : (v : Result searched.Verdict reasons.Refused) (pairs : ℕ) → v ≡ Ok (found.Pass pairs) → 0 ∷ 0 ∷ 0 ∷ pairs ∷ 0 ∷ [] ≡ verdict_numbers (search.answer_of v)
+pub numbers_pass : (v : Result searched.Verdict reasons.Refused) (pairs : ℕ) → v ≡ Ok (found.Pass pairs)
+    → 0 ∷ 0 ∷ 0 ∷ pairs ∷ 0 ∷ [] ≡ verdict_numbers (search.answer_of v)
 unfolding verdict_numbers
 numbers_pass v pairs e = rw e refl
 

@@ -11,12 +11,11 @@ use Rattle.letters.specs.Editions.{first_edition}
 use Rattle.letters.specs.Capacity.{most_pairs, capacity_of}
 use Rattle.letters.specs.RefusalNumbers.{output_too_small}
 use Rattle.letters.proofs.Theory.WordLaws.{first_roomy}
-use Rattle.traces.specs.Reading.{trace, reading}
+use Rattle.traces.specs.Reading.{reading}
 use Rattle.traces.specs.Traces.{packing}
 use Rattle.traces.proofs.Theory.TraceLaws.{reading_packing}
 use Rattle.semantics.specs.Terms.{begin, extend, state}
 use Rattle.semantics.specs.Models.{Feasible}
-use Rattle.semantics.specs.Judgement.{size}
 use Rattle.semantics.specs.Tables.{Tables}
 use Rattle.semantics.specs.PackedTables.{pack_tables}
 use Rattle.semantics.specs.TablesRead.{read_tables}
