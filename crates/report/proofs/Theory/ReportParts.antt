@@ -78,7 +78,8 @@ module _ (registers functions : List ℕ) (h : Header) (s : List ℕ) where
       pass_done e a = appended_same (sym (pass_parts e)) a
 
       module _ {n m : ℕ} {middle : List ℕ} {k : ℕ} where
-        pub incoherent_letters : v ≡ Ok (Incoherent n m) → PlaceInRange at (whole v) → Appended entry at (incoherent_head n) middle k → PlaceInRange k (letters m)
+        pub incoherent_letters : v ≡ Ok (Incoherent n m) → PlaceInRange at (whole v) → Appended entry at (incoherent_head n) middle k
+            → PlaceInRange k (letters m)
         incoherent_letters e r a = room_then (incoherent_head n) (letters m) (room_same (incoherent_parts e) r) a
 
         pub incoherent_done : {exit : List ℕ} {next : ℕ} → v ≡ Ok (Incoherent n m) → Appended entry at (incoherent_head n) middle k

@@ -81,4 +81,5 @@ returns-in-Ok-Fail-clause-appended c =
 pub returns-in-Err-clause-appended : goal.returns-in-Err-clause-appended
 returns-in-Err-clause-appended c =
     let d = c.args.self.now in
-    appended_same (sym (refused_parts d.registers d.functions d.header c.args.answer.now (c.from-in-Err.ensures ∙ c.from-number.ensures) c.in-Err.is)) c.put_line.ensures.appended
+    appended_same (sym (refused_parts d.registers d.functions d.header c.args.answer.now (c.from-in-Err.ensures ∙ c.from-number.ensures) c.in-Err.is))
+    c.put_line.ensures.appended
