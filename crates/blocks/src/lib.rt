@@ -25,6 +25,7 @@ pub enum PointKind {
     Fork,
 }
 
+// The numbers stay beside `PointKind`, for what may not change: `search_pairs` took points whose kind was any number, and `From` gives each its kind.
 /// The number of the kind of a point that is an assignment or an assume.
 pub const STEP: u8 = 0;
 

@@ -64,6 +64,7 @@ pub struct Terms {
     pub representative: Numbers,
 }
 
+// Arrays of numbers, since memory is fixed.
 /// An index of applications by signature.
 #[derive(Drop)]
 pub struct Index {
@@ -73,6 +74,7 @@ pub struct Index {
     pub link: Numbers,
 }
 
+// Numbers side by side as in `Terms`: `Parts` and `Clashes`, which docs/ name, speak of lists.
 /// The unequal tests.
 #[derive(Drop)]
 pub struct Tests {

@@ -4,6 +4,7 @@
 use display_lines::NotJudged;
 use files::Source;
 
+// Each program has its own: every line names the crate that answers, and with closures for them no line would be left out.
 fn main(rt: HostRuntime) {
     let mut input = Source::new(rt.stdin());
     let mut lines = display_lines::line_space();

@@ -174,6 +174,7 @@ pub fn write_lines(trace: &[u8], lines: &mut [u8]) -> Result<usize, NotJudged>
     Ok(end)
 }
 
+// This and `answer` stay in each crate of lines: what differs is what is written and its contract, and one function for both would say neither.
 /// Writes the lines of an input that was read into `trace` into the front of a lent buffer: those of the bytes that it had, or of all bytes
 /// where it filled `trace`. Where a read failed nothing is judged, and the buffer stays as it is.
 pub fn answer_to(trace: &[u8], input: Input, lines: &mut [u8]) -> Result<usize, NotJudged>

@@ -21,6 +21,7 @@ use window::Window;
 /// How many points a macro has at most.
 pub const POINTS: usize = MOST_POINTS as usize;
 
+// An enum and no Option: a branch goes on, fails or is none, and `move_of` (specs/Moves.antt) is by these three.
 /// What a branch of a point performs.
 #[derive(Clone, Copy)]
 pub enum PointMove {

@@ -9,6 +9,7 @@ use letters::reasons::Refused;
 // How many numbers the call answers.
 const LAYOUT_NUMBERS: usize = 3;
 
+// `written_numbers` has this body too: the contracts of the calls that C has cite a definition each (`layout_numbers`, `written_numbers`).
 // The numbers of what printing a macro gives.
 #[tactic(auto, unfolding(crate::specs::LayoutCalls::layout_numbers))]
 fn layout_numbers(written: Result<usize, Refused>) -> [u64; LAYOUT_NUMBERS]

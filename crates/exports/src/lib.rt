@@ -53,6 +53,7 @@ fn run_numbers(verdict: RunAnswer) -> [u64; RUN_NUMBERS]
     }
 }
 
+// The calls have one skeleton, and stay: C calls each by a name of its own, and each has its contract.
 /// Judges a packed trace of any length: the refusal and its place; the first incoherent letter; the first infeasible letter before
 /// it. Each is 0 for none. Where `answer` has room for the four, the trace is judged, as demand 2 says.
 #[unsafe(no_mangle)]

@@ -12,6 +12,7 @@ const WRITTEN_NUMBERS: usize = 3;
 
 const READ_NUMBERS: usize = 6;
 
+// `layout_numbers` says why the two stay.
 // The numbers of what writing a trace gives.
 #[tactic(auto, unfolding(crate::specs::TraceCalls::written_numbers))]
 fn written_numbers(written: Result<usize, Refused>) -> [u64; WRITTEN_NUMBERS]
@@ -23,6 +24,7 @@ fn written_numbers(written: Result<usize, Refused>) -> [u64; WRITTEN_NUMBERS]
     }
 }
 
+// The parameters are those of the C interface.
 /// Writes the packed trace of a header and unpacked letters, five bytes each: the refusal and its place, 0 for none; the bytes of the trace, which
 /// stands at the front of the output.
 #[unsafe(no_mangle)]

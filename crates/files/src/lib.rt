@@ -70,6 +70,7 @@ fn read_piece<R: Read>(source: &mut Source<R>, piece: &mut [u8]) -> Result<Optio
     outcome(got, piece.len())
 }
 
+// The buffer and the place stay two parameters: the buffer is lent whole, since `Stored` says that the bytes before the place stay.
 // Reads once, into the buffer from `at` on. The bytes go through a piece, because nothing is known of what the system's read leaves
 // behind those that it gave.
 fn read_once<R: Read>(

@@ -13,6 +13,7 @@ use table::MOST_PAIRS;
 /// How many chains there are.
 pub const CHAINS: usize = 1024;
 
+// Arrays of numbers, since memory is fixed.
 /// The chains of the records in a table. Record 0 ends every chain and needs no entry.
 #[derive(Clone, Copy)]
 pub struct Index {

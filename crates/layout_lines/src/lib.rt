@@ -39,6 +39,7 @@ pub fn write_lines(text: &[u8], lines: &mut [u8]) -> usize
     }
 }
 
+// This and `answer` stay in each crate of lines: what differs is what is written and its contract, and one function for both would say neither.
 /// Writes the lines of an input that was read into `text` into the front of a lent buffer: those of the bytes that it had, or of all bytes
 /// where it filled `text`. Where a read failed nothing is printed, and the buffer stays as it is.
 pub fn answer_to(text: &[u8], input: Input, lines: &mut [u8]) -> Result<usize, Unread>

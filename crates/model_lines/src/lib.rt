@@ -178,6 +178,7 @@ fn known_of_long(trace: &[u8], rest: Result<Parity, Unread>) -> Result<&[u8], Un
     }
 }
 
+// This and `answer` stay in each crate of lines: what differs is what is written and its contract, and one function for both would say neither.
 /// Writes the line of an input that was read into `trace` into the front of a lent buffer: that of the bytes that it had, or, where it
 /// filled `trace`, that of all its bytes, or of all but the last if `rest` is odd. Where a read failed nothing is judged, and the buffer
 /// stays as it is.

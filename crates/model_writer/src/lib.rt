@@ -46,6 +46,7 @@ pub enum Shown {
     Infeasible(u64),
 }
 
+// An array with a count, since memory is fixed.
 // The model of the computed terms: a value for each term, and the applications that have a row.
 #[derive(Drop)]
 struct Model {

@@ -20,6 +20,7 @@ fn feed<R: Read>(source: &mut Source<R>) -> Result<Stream, Unread> {
     Ok(stream)
 }
 
+// Each program has its own: every line names the crate that answers, and with closures for them no line would be left out.
 fn main(rt: HostRuntime) {
     let mut input = Source::new(rt.stdin());
     match feed(&mut input) {

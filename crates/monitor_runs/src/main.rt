@@ -42,6 +42,7 @@ fn judge(rt: &HostRuntime, file: File, name: &[u8]) {
     }
 }
 
+// Each program has its own: every line names the crate that answers, and with closures for them no line would be left out.
 fn main(rt: HostRuntime) {
     files::open_arguments(&rt, |file, name| judge(&rt, file, name));
 }

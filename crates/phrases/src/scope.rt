@@ -6,6 +6,7 @@ use letters::Letter;
 use letters::reasons::{Reason, Refused};
 use tokens::Token;
 
+// Two slices of functions, since `Few` and the readers' definitions speak of two lists.
 /// A text, and what is declared in it: its registers, its functions with its tests behind them, and how many arguments each of these takes.
 #[derive(Clone, Copy)]
 pub struct Scope<'a> {

@@ -103,6 +103,7 @@ fn read(rt: &HostRuntime, file: File, name: &[u8]) {
     }
 }
 
+// Each program has its own: every line names the crate that answers, and with closures for them no line would be left out.
 fn main(rt: HostRuntime) {
     files::open_arguments(&rt, |file, name| read(&rt, file, name));
 }

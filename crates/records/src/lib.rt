@@ -86,6 +86,7 @@ const SPREADING: u64 = 2654435761;
 
 // ---- words
 
+// Two functions, since the library has no common trait of the two widths.
 // Four bytes from a place on as one number, the least significant first: one load.
 fn half_in(bytes: &[u8], at: usize) -> u32
     requires { at + half_bytes ≤ length bytes.now }
@@ -121,6 +122,7 @@ fn number_in(part: &[u8], at: usize) -> usize
 
 // ---- writing
 
+// The buffer and the place stay two parameters: the table is lent (C interface), and each part has a place of its own.
 /// Lays `part` over the bytes from `at` on. For writers that have checked their room.
 pub fn lay(bytes: &mut [u8], at: usize, part: &[u8])
     requires { at + length part.now ≤ length bytes.old }
@@ -262,6 +264,7 @@ pub fn same_pair(part: &[u8], pair: &[u8; ENCODED_BYTES]) -> bool
     part[PAIR..].starts_with(pair)
 }
 
+// `states` has such three lines too: a public function for them would need a contract and an edit of its own, no plainer.
 fn eight(part: &[u8], at: usize) -> [u8; REGISTERS]
     requires { at + registers ≤ length part.now }
     ensures { result ≡ take registers (drop at part.now) }

@@ -85,3 +85,15 @@ pub fn write_refused(number: u8, place: u64, out: &mut [u8]) -> usize
     writer.put_line(b"refused 4 at 5\n", [number as u64, place, 0, 0]);
     writer.at
 }
+
+/// Writes the line of a refusal by any number, as `write_report` writes that of one by a reason: where it does not fit the buffer nothing is
+/// written.
+pub fn write_refusal(number: u8, place: u64, out: &mut [u8]) -> Option<usize>
+    ensures { WroteText (refused_line number place) out.old out.new result }
+{
+    let size = write_refused(number, place, &mut []);
+    if out.len() < size {
+        return None;
+    }
+    Some(write_refused(number, place, out))
+}

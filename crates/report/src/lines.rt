@@ -70,6 +70,7 @@ impl Declared {
         writer.put_line(template, [first, second, 0, 0]);
     }
 
+    // The fields of an application stay parameters: a struct of them would be `Letter` once more.
     // Appends the line of an application.
     fn put_application(&self, writer: &mut Writer, target: u8, function: u8, first: u8, second: u8)
         requires { PlaceInRange writer.old.at

@@ -28,6 +28,7 @@ use syntax::CompiledMacro;
 /// How many bytes the longest trace has: a header, and as many letters as the whole-trace engine takes.
 pub const TRACE_BYTES: usize = UNIT_BYTES + UNIT_BYTES * MOST_LETTERS;
 
+// An array with a start, since memory is fixed.
 /// A packed trace, at the end of the bytes, from `start` on.
 #[derive(Clone, Copy)]
 pub struct Packed {

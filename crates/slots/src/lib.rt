@@ -790,6 +790,7 @@ pub fn make_around(res: &[Mask; RESULTS]) -> [Mask; PAIRS]
 }
 
 impl SlotWindow {
+    // The tables are the parameters: what they travel in is this struct, which is made here.
     /// Slots of these tables, whatever they say; only each register has one of the slots.
     pub fn of_tables(
         slot: [u8; REGISTERS],

@@ -64,6 +64,7 @@ fn number(b: [u8; NUMBER_SIZE]) -> u64
 
 // ---- parts of a state
 
+// `records` has such three lines too: a public function for them would need a contract and an edit of its own, no plainer.
 // Eight bytes from a place on: those of a number, or one for each register.
 fn eight_at(state: &[u8], at: usize) -> [u8; NUMBER_SIZE]
     requires { at + number_size ≤ length state.now }
@@ -194,6 +195,7 @@ const PHASE_EVEN: u8 = 2;
 
 const PHASE_ODD: u8 = 3;
 
+// No `From`: `streaming`, whose types these are, knows nothing of how a state that C keeps numbers them, and an impl here is not allowed.
 fn phase_code(phase: Phase) -> u8
     ensures { result ≡ phase_code phase }
 {

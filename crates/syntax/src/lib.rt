@@ -50,6 +50,7 @@ const BESIDE_ENTRIES: usize = 2;
 // The registers that are hidden behind the declared ones where tests are declared: `result` and `truth`.
 const HIDDEN_REGISTERS: usize = 2;
 
+// Arrays with a count, for what may not change: `reads_once` speaks of these fields; and memory is fixed.
 /// A macro. A name is held as one number, its bytes as they are declared as digits to base `tokens::BYTE_VALUES`, the first byte lowest; 0 stands
 /// behind the last name.
 #[derive(Clone, Copy)]

@@ -3,6 +3,7 @@
 
 use files::{Source, Unread};
 
+// Each program has its own: every line names the crate that answers, and with closures for them no line would be left out.
 fn main(rt: HostRuntime) {
     let mut input = Source::new(rt.stdin());
     let mut lines = verdict_lines::line_space();

@@ -579,6 +579,7 @@ fn own(i: usize, count: usize) -> Mask
     if i < count { single(i) } else { 0 }
 }
 
+// A fill like that of `folded`: what fills an entry differs, and a closure for it is no plainer.
 // Each register below the count in a class of its own.
 fn own_classes(count: usize) -> [Mask; REGISTERS]
     ensures { result ≡ (fresh_of count).class }
@@ -672,6 +673,7 @@ impl Window {
         }
     }
 
+    // `slots` has its own, of another type: a trait for three lines is no plainer.
     // Makes the window infeasible where it is `bad`. An infeasible window has no unequal pairs.
     fn settle(&mut self, bad: bool)
         ensures { self.new ≡ settled_of registers functions self.old bad }
