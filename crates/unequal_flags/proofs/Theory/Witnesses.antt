@@ -46,8 +46,8 @@ pub record Worked : Type 0 where
 
 pub worked : Worked
 unfolding unequal_word named_row named_rows flag_word joined_rows table table_from part_of naming_registers naming_below least_in least_from
-    size_of size_from own_of unequal_of settled_of parted_of copied_of copied_tables fallen_of lost_of raised_of passes below_of beside_of above_of folded_of union_of flag_of
-    marked_with
+    size_of size_from own_of unequal_of settled_of parted_of copied_of copied_tables fallen_of lost_of raised_of passes below_of beside_of above_of folded_of
+    union_of flag_of marked_with
     masks_through results_through bits_moved mask_moved minus nonempty united united_at equal_of merged_of closed_of find_of rest_of clash_of apart_of
 worked = record { none_before = refl; two_bits = refl; no_name_no_bits = refl; bits_move = refl; none_infeasible = refl }
 
