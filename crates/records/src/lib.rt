@@ -8,8 +8,8 @@ ghost use Rattle.semantics.specs.PackedTables.{units};
 ghost use Rattle.window.specs.Layout.{registers, lines, results};
 ghost use Rattle.records.specs.Codes.{code_of, computed_of};
 ghost use Rattle.records.specs.Words.{fingerprint_word_bytes, half_bytes};
-ghost use Rattle.records.specs.Formats.{number_bytes, number_in};
-ghost use Rattle.records.specs.Records.{record_bytes, content_bytes, code_range, mask_bytes, flag, empty_line};
+ghost use Rattle.records.specs.Formats.{number_bytes, number_in, ever_mask};
+ghost use Rattle.records.specs.Records.{first_format, record_bytes, content_bytes, code_range, mask_bytes, flag, empty_line};
 ghost use Rattle.records.specs.Records.{code_bytes, fingerprint_of};
 ghost use Rattle.records.specs.Records.{encoded, record_of, parent_in, branch_in, point_in, same_pair, is_set, meanings_of, results_meant, codes_at, ever_in};
 ghost use Rattle.records.specs.Records.{window_in};
@@ -319,20 +319,31 @@ fn computed(both: u8) -> u8
     u8::from(both / CODE_RANGE != 0) + 2 * u8::from(both % CODE_RANGE != 0)
 }
 
+// Line j of the table of what was computed. It is not inlined: in the loop over the lines, most of which are passed over, the compiler would work out
+// several lines at once, blank or not.
+#[inline(never)]
+fn ever_line(part: &[u8], j: usize) -> Mask
+    requires { (record_bytes ≤ length part.now) × (j < lines) }
+    ensures { result ≡ ever_mask first_format (codes_at part.now) j }
+{
+    let at = CODE_PLACE + LINE_BYTES * j;
+    computed(part[at])
+        + 4 * computed(part[at + 1])
+        + 16 * computed(part[at + 2])
+        + 64 * computed(part[at + 3])
+}
+
+// The whole table. Most lines have the code 0 only, and stay as they are.
 fn ever_lines(part: &[u8]) -> [Mask; LINES]
     requires { record_bytes ≤ length part.now }
     ensures { result ≡ ever_in (codes_at part.now) }
 {
     let mut ever = [0u8; LINES];
     for j in 0..LINES {
-        let at = CODE_PLACE + LINE_BYTES * j;
-        if half_in(part, at) == 0 {
+        if half_in(part, CODE_PLACE + LINE_BYTES * j) == 0 {
             continue;
         }
-        ever[j] = computed(part[at])
-            + 4 * computed(part[at + 1])
-            + 16 * computed(part[at + 2])
-            + 64 * computed(part[at + 3]);
+        ever[j] = ever_line(part, j);
     }
     ever
 }
