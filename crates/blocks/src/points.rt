@@ -1,6 +1,7 @@
 // The points of a macro while its text is read.
 ghost use Rattle.std.specs.Prelude.{◌≤◌, ◌+◌};
 ghost use Rattle.grammar.specs.Limits.{most_points};
+ghost use Rattle.blocks.specs.Followed.{FollowedBelow};
 
 use super::{MOST_POINTS, POINT_SPACE, PointEntry, PointKind, UNKNOWN, begin, unused_point};
 use letters::Letter;
@@ -17,7 +18,10 @@ pub struct Points {
     pub entries: [PointEntry; POINT_SPACE],
     /// How many were read; one more than `MOST_POINTS` for any more than these.
     pub count: u16,
+    /// What follows the points below this number is known, so that no range is gone over from its beginning again.
+    pub known: u16,
     pub ghost counted: { count ≤ most_points + 1 },
+    pub ghost followed: { FollowedBelow known entries },
 }
 
 impl Points {
@@ -35,6 +39,7 @@ impl Points {
         Points {
             entries: [unused_point(); POINT_SPACE],
             count: 0,
+            known: 0,
         }
     }
 
@@ -44,6 +49,7 @@ impl Points {
     {
         let n = self.count;
         if n < MOST_POINTS {
+            self.known = self.known.min(n);
             self.entries[n as usize] = PointEntry {
                 kind,
                 letter,
@@ -74,8 +80,12 @@ impl Points {
         ensures count { self.new.count ≡ self.old.count }
     {
         // by index, since a range of the array would ask that `from` is at most `to`, which no caller was asked
-        for i in from as usize..to as usize {
+        let start = from.max(self.known);
+        for i in start as usize..to as usize {
             self.entries[i] = self.entries[i].redirected(f);
+        }
+        if from <= self.known && f != UNKNOWN {
+            self.known = self.known.max(to);
         }
     }
 
@@ -127,6 +137,7 @@ impl Points {
         ensures count { self.new.count ≡ self.old.count }
     {
         let point = self.entries[test as usize];
+        self.known = self.known.min(test);
         self.entries[test as usize] = PointEntry {
             first,
             second,
