@@ -184,6 +184,8 @@ pub fn first_malformed(header: Header, trace: &[u8], letters: usize, k: usize) -
 /// Runs over the letters of a trace whose header was read. The answer is the number of the first infeasible letter, from 1, behind which none
 /// was read, or none; or the refusal of the first letter that is not well formed. Where there is neither, `terms` has the computed terms and
 /// their classes. Left free: what it has else, and the entries past the computed terms.
+// It is not inlined, nor is the caller's writing of the model: so the two take the same place on the stack, one after the other.
+#[inline(never)]
 pub fn run(
     header: Header,
     trace: &[u8],

@@ -197,7 +197,9 @@ impl Model {
     }
 }
 
-// Shows the model of the computed terms where it fits the output.
+// Shows the model of the computed terms where it fits the output. It is not inlined, nor is `engine::run`: so the model takes the place on the stack that
+// the engine's parts had.
+#[inline(never)]
 fn show_model(header: Header, terms: &Terms, out: &mut [u8]) -> Result<Shown, Refused>
     requires { ComputedTerms header terms.now × (terms.now.registers ≡ header.registers) }
     ensures { ModelledTerms header terms.now out.old result out.new }
