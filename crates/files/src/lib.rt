@@ -2,7 +2,7 @@
 // read to its end nothing can be judged.
 #![tactic(auto)]
 
-ghost use Rattle.std.specs.Prelude.{◌≡◌, ◌<◌, length, IfOk, OnErr, IfSome};
+ghost use Rattle.std.specs.Prelude.{◌≡◌, ◌<◌, length, IfOk, IfErr, OnErr};
 ghost use Rattle.io.specs.Counts.{IsPrefixLen};
 ghost use Rattle.files.specs.Answer.{answered, kept};
 ghost use Rattle.files.specs.Input.{meaning, Gave, following, Stored, Received};
@@ -209,22 +209,23 @@ fn open(rt: &HostRuntime, name: &[u8]) -> Option<File> {
 }
 
 /// Opens the file that argument i names for reading and puts its name into the front of a buffer, or says on standard error why it could not.
-/// Where it could not, it answers no size and says nothing of the buffer: `IsPrefixLen 0` holds of any.
-pub fn open_argument(rt: &HostRuntime, i: usize, name: &mut [u8]) -> Option<Opened>
-    ensures { IfSome result (λ opened. IsPrefixLen opened.size name.new) }
+/// Where it could not, the error is the size of the name that was read: 0 where there is none, or where it does not fit the buffer.
+pub fn open_argument(rt: &HostRuntime, i: usize, name: &mut [u8]) -> Result<Opened, usize>
+    ensures opened { IfOk result (λ opened. IsPrefixLen opened.size name.new) }
+    ensures refused { IfErr result (λ size. IsPrefixLen size name.new) }
 {
     match rt.arg(i, name) {
-        Ok(size) => {
-            let file = open(rt, &name[..size])?;
-            Some(Opened { file, size })
-        }
+        Ok(size) => match open(rt, &name[..size]) {
+            Some(file) => Ok(Opened { file, size }),
+            None => Err(size),
+        },
         Err(FillError::TooLong) => {
             say(rt, b"argument", &"File name too long");
-            None
+            Err(0)
         }
         Err(FillError::NotPresent) => {
             say(rt, b"argument", &"Invalid argument");
-            None
+            Err(0)
         }
     }
 }
@@ -247,7 +248,7 @@ pub fn open_arguments<F: FnMut(File, &[u8])>(rt: &HostRuntime, mut take: F)
 {
     for i in 1..argument_count(rt) {
         let mut name = io::buffer();
-        if let Some(Opened { file, size }) = open_argument(rt, i, &mut name) {
+        if let Ok(Opened { file, size }) = open_argument(rt, i, &mut name) {
             take(file, &name[..size]);
         }
     }
