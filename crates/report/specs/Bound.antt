@@ -9,7 +9,7 @@ abbrev pub Limited : Reported → Type 0
 Limited (Ok (Pass pairs)) = pairs < 2 ^ 64
 Limited (Ok (Incoherent pairs n)) = (pairs < 2 ^ 64) × (n < word_values)
 Limited (Ok (Fail pairs n)) = (pairs < 2 ^ 64) × (n < word_values)
-Limited (Err r) = r.place < 2 ^ 64
+Limited (Err r) = (r.number < 256) × (r.place < 2 ^ 64)
 
 -- The letters and the rows that a verdict shows.
 abbrev pub letter_number : Reported → ℕ

@@ -6,11 +6,10 @@ use Rattle.letters.specs.declared.Letter.{Letter}
 use Rattle.letters.specs.declared.Letter.TheVariants.{Copy}
 use Rattle.letters.specs.Editions.{first_edition}
 use Rattle.letters.specs.Answers.{on_answer}
-use Rattle.letters.specs.Reasons.{number_of}
-use Rattle.letters.specs.declared.reasons.Refused.{Refused}
 use Rattle.traces.specs.ReadingParts.{letter_at}
 use Rattle.semantics.specs.TablesRead.{read_tables}
 use Rattle.text.specs.Names.{name_text}
+use Rattle.report.specs.declared.ReportedRefusal.{ReportedRefusal}
 use Rattle.report.specs.declared.ReportedVerdict.{ReportedVerdict}
 use Rattle.report.specs.declared.ReportedVerdict.TheVariants.{Pass, Incoherent, Fail}
 use Rattle.report.specs.Lines.{Names, Printed, report}
@@ -45,16 +44,16 @@ letters_in h s k (suc n) = letter_or_copy h s k ∷ letters_in h s (k + 1) n
 abbrev pub model_start : ℕ → ℕ
 model_start n = first_edition.bytes * n + first_edition.bytes
 
--- What a report is of: a verdict, or a refusal.
+-- What a report is of: a verdict, or a refusal by any number.
 abbrev pub Reported : Type 0
-Reported = Result ReportedVerdict Refused
+Reported = Result ReportedVerdict ReportedRefusal
 
 -- What is printed for a verdict whose answer is in s, or for a refusal.
 unfoldable pub printed_of : Header → Reported → List ℕ → Printed
 printed_of h (Ok (Pass pairs)) s = Printed.pass pairs
 printed_of h (Ok (Incoherent pairs n)) s = Printed.incoherent pairs (letters_in h s 0 n)
 printed_of h (Ok (Fail pairs n)) s = Printed.fail pairs (letters_in h s 0 n) (read_tables first_edition h (drop (model_start n) s))
-printed_of h (Err r) s = Printed.refused (number_of r.reason) r.place
+printed_of h (Err r) s = Printed.refused r.number r.place
 
 -- The report of a verdict whose answer is in s, or of a refusal.
 unfoldable pub report_of : List ℕ → List ℕ → Header → Reported → List ℕ → List ℕ

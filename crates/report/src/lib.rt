@@ -6,6 +6,7 @@ mod answer;
 mod lines;
 
 ghost use Rattle.std.specs.Prelude.{◌≡◌};
+ghost use Rattle.letters.specs.Reasons.{number_of};
 ghost use Rattle.text.specs.Appending.{Appended};
 ghost use Rattle.report.specs.Lines.{refused_line};
 ghost use Rattle.report.specs.Shown.{report_of, WroteText};
@@ -30,6 +31,26 @@ pub enum ReportedVerdict {
     Fail(u64, u16),
 }
 
+/// A refusal as it is printed: a number and a place (0 unless said). The number is any; that of a reason is one of them.
+#[derive(Clone, Copy, Debug, PartialEq, Eq)]
+pub struct ReportedRefusal {
+    /// The number.
+    pub number: u8,
+    /// The place: a letter's number, a place in a text, or 0.
+    pub place: u64,
+}
+
+impl From<Refused> for ReportedRefusal {
+    ghost from_gives = { λ r s. s ≡ record { number = number_of r.reason; place = r.place } };
+
+    fn from(refused: Refused) -> ReportedRefusal {
+        ReportedRefusal {
+            number: u8::from(refused.reason),
+            place: refused.place,
+        }
+    }
+}
+
 /// What a macro declares: the names of its registers and functions, and its header. A name is held as a number, its bytes the digits to base
 /// `tokens::BYTE_VALUES` and the first byte the lowest.
 #[derive(Clone, Copy)]
@@ -44,7 +65,9 @@ pub struct Declared {
 
 // The verdict as it is, with what the types of its numbers say of them. It stands although it gives back what it takes: of a number in an enum the check
 // knows the range in an arm alone (tried without it, and the proof did not close).
-fn limited(verdict: Result<ReportedVerdict, Refused>) -> Result<ReportedVerdict, Refused>
+fn limited(
+    verdict: Result<ReportedVerdict, ReportedRefusal>,
+) -> Result<ReportedVerdict, ReportedRefusal>
     ensures same { result ≡ verdict }
     ensures limits { Limited result }
 {
@@ -54,7 +77,7 @@ fn limited(verdict: Result<ReportedVerdict, Refused>) -> Result<ReportedVerdict,
             Ok(ReportedVerdict::Incoherent(pairs, letters))
         }
         Ok(ReportedVerdict::Fail(pairs, letters)) => Ok(ReportedVerdict::Fail(pairs, letters)),
-        Err(refused) => Err(refused.reason.at(refused.place)),
+        Err(ReportedRefusal { number, place }) => Err(ReportedRefusal { number, place }),
     }
 }
 
@@ -62,7 +85,7 @@ fn limited(verdict: Result<ReportedVerdict, Refused>) -> Result<ReportedVerdict,
 /// `answer` holds the execution as a packed trace, on fail its model directly behind it; what lies behind these is not read.
 pub fn write_report(
     declared: Declared,
-    verdict: Result<ReportedVerdict, Refused>,
+    verdict: Result<ReportedVerdict, ReportedRefusal>,
     answer: &[u8],
     out: &mut [u8],
 ) -> Option<usize>
@@ -86,8 +109,7 @@ pub fn write_refused(number: u8, place: u64, out: &mut [u8]) -> usize
     writer.at
 }
 
-/// Writes the line of a refusal by any number, as `write_report` writes that of one by a reason: where it does not fit the buffer nothing is
-/// written.
+/// Writes the line of a refusal by itself, as `write_report` writes it: where it does not fit the buffer nothing is written.
 pub fn write_refusal(number: u8, place: u64, out: &mut [u8]) -> Option<usize>
     ensures { WroteText (refused_line number place) out.old out.new result }
 {

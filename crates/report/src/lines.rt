@@ -13,9 +13,8 @@ ghost use Rattle.report.specs.Shown.{names_of, letters_in, model_start, report_o
 ghost use Rattle.report.specs.Shown.{word_values};
 
 use super::answer::{ROW_BYTES, WORD_BYTES, letter_of, row_at, word_at};
-use super::{Declared, ReportedVerdict};
+use super::{Declared, ReportedRefusal, ReportedVerdict};
 use letters::Letter;
-use letters::reasons::Refused;
 use letters::words::takes_two;
 use text::Writer;
 
@@ -227,7 +226,7 @@ impl Declared {
     fn put_report(
         &self,
         writer: &mut Writer,
-        verdict: Result<ReportedVerdict, Refused>,
+        verdict: Result<ReportedVerdict, ReportedRefusal>,
         answer: &[u8],
     )
         requires { PlaceInRange writer.old.at (report_of self.now.registers self.now.functions self.now.header verdict answer.now) }
@@ -248,11 +247,8 @@ impl Declared {
                 self.put_model(writer, answer, start);
             }
             Err(refused) => {
-                let number = u8::from(refused.reason);
-                writer.put_line(
-                    b"refused 4 at 5\n",
-                    [u64::from(number), refused.place, 0, 0],
-                );
+                let number = u64::from(refused.number);
+                writer.put_line(b"refused 4 at 5\n", [number, refused.place, 0, 0]);
             }
         }
     }
@@ -260,7 +256,7 @@ impl Declared {
     /// Puts the whole report of a verdict into the front of a buffer, as far as the buffer goes, and gives how many bytes it has.
     pub(super) fn put_whole(
         &self,
-        verdict: Result<ReportedVerdict, Refused>,
+        verdict: Result<ReportedVerdict, ReportedRefusal>,
         answer: &[u8],
         out: &mut [u8],
     ) -> usize

@@ -3,6 +3,7 @@ use Rattle.std.specs.Prelude.{Result, Ok, Err, ◌≡◌, List, ◌++◌, ℕ, �
 use Rattle.base.specs.Choice.{pick}
 use Rattle.letters.specs.Editions.{most_registers}
 use Rattle.letters.specs.declared.reasons.Refused.{Refused}
+use Rattle.letters.specs.Reasons.{number_of}
 use Rattle.syntax.specs.declared.CompiledMacro as held
 use Rattle.syntax.specs.declared.MacroRead.{MacroRead}
 use Rattle.syntax.specs.Reads.{Reads}
@@ -22,7 +23,7 @@ unfoldable pub reported : Searched → Reported
 reported (Ok (Pass pairs)) = Ok (printed.Pass pairs)
 reported (Ok (Fail pairs letters)) = Ok (printed.Fail pairs (letters % word_values))
 reported (Ok (Incoherent pairs letters)) = Ok (printed.Incoherent pairs (letters % word_values))
-reported (Err r) = Err r
+reported (Err r) = Err record { number = number_of r.reason; place = r.place }
 
 -- The report on a macro as the reader's struct holds it; the bytes of the answer are in s.
 unfoldable pub report_for : held.CompiledMacro → Searched → List ℕ → List ℕ

@@ -10,7 +10,7 @@ ghost use Rattle.verdict_lines.specs.Reported.{reported as reportedOf, Reports};
 
 use files::{Input, Source, Unread};
 use letters::reasons::Refused;
-use report::{Declared, ReportedVerdict, WORD_VALUES};
+use report::{Declared, ReportedRefusal, ReportedVerdict, WORD_VALUES};
 use search::Verdict;
 use std::io::Read;
 use syntax::LONGEST_TEXT;
@@ -36,7 +36,7 @@ pub fn line_space() -> [u8; MOST_BYTES]
 }
 
 // The verdict as the report takes it.
-fn reported(verdict: Result<Verdict, Refused>) -> Result<ReportedVerdict, Refused>
+fn reported(verdict: Result<Verdict, Refused>) -> Result<ReportedVerdict, ReportedRefusal>
     ensures { (result ≡ reportedOf verdict) × Limited result }
 {
     match verdict {
@@ -47,7 +47,7 @@ fn reported(verdict: Result<Verdict, Refused>) -> Result<ReportedVerdict, Refuse
         Ok(Verdict::Incoherent(pairs, letters)) => {
             Ok(ReportedVerdict::Incoherent(pairs as u64, (letters % WORD_VALUES) as u16))
         }
-        Err(refused) => Err(refused),
+        Err(refused) => Err(ReportedRefusal::from(refused)),
     }
 }
 

@@ -11,8 +11,7 @@ use Rattle.text.proofs.Theory.Appending.{room_same, room_first, room_then, appen
 use Rattle.text.specs.Numerals.{numeral}
 use Rattle.text.specs.Templates.{filled_in}
 use Rattle.std.specs.Prelude.{Ok, Err}
-use Rattle.letters.specs.Reasons.{number_of}
-use Rattle.letters.specs.declared.reasons.Refused.{Refused}
+use Rattle.report.specs.declared.ReportedRefusal.{ReportedRefusal}
 use Rattle.report.specs.declared.ReportedVerdict.TheVariants.{Pass, Incoherent, Fail}
 use Rattle.report.specs.Lines.{line, pairs_word, verdict_lines, letter_lines, model_lines, report}
 use Rattle.report.specs.Shown.{Reported, names_of, letters_in, model_start, printed_of, report_of}
@@ -58,7 +57,7 @@ module _ (registers functions : List ℕ) (h : Header) (s : List ℕ) where
     unfolding report_of printed_of report verdict_lines
     fail_parts {n} {m} e = ap whole e ∙ ap (λ (l : List ℕ). (l ++ pairs_line n) ++ (letters m ++ model m)) fail_form
 
-    pub refused_parts : {a : ℕ} {r : Refused} → a ≡ number_of r.reason → v ≡ Err r
+    pub refused_parts : {a : ℕ} {r : ReportedRefusal} → a ≡ r.number → v ≡ Err r
         → whole v ≡ filled_in (114 ∷ 101 ∷ 102 ∷ 117 ∷ 115 ∷ 101 ∷ 100 ∷ 32 ∷ 52 ∷ 32 ∷ 97 ∷ 116 ∷ 32 ∷ 53 ∷ 10 ∷ []) (a ∷ r.place ∷ 0 ∷ 0 ∷ [])
     unfolding report_of printed_of report
     refused_parts {r = r} f e = ap whole e ∙ refused_form r.place f

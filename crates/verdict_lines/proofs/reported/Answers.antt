@@ -1,4 +1,4 @@
-use Rattle.std.proofs.Common.{rules, sym, ap, ◌≡◌, Ok}
+use Rattle.std.proofs.Common.{rules, sym, ap, ◌∙◌, ◌≡◌, Ok, Err}
 use Rattle.search.specs.declared.Verdict.TheVariants.{Pass, Fail, Incoherent}
 use Rattle.verdict_lines.specs.Reported.{reported}
 use Rattle.verdict_lines.proofs.reported.Goals as goal
@@ -23,4 +23,4 @@ returns-in-Ok-Incoherent c =
 
 pub returns-in-Err : goal.returns-in-Err
 unfolding reported
-returns-in-Err c = (ap reported (sym c.in-Err.is), search rules)
+returns-in-Err c = (ap Err c.from.ensures ∙ ap reported (sym c.in-Err.is), search rules)

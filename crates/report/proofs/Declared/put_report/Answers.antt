@@ -1,4 +1,4 @@
-use Rattle.std.proofs.Common.{rules, ℕ, ◌+◌, ◌*◌, List, drop, sym, ap, ◌∙◌, ◌≡◌, Ok}
+use Rattle.std.proofs.Common.{rules, ℕ, ◌+◌, ◌*◌, List, drop, sym, ap, ◌≡◌, Ok}
 use Rattle.letters.specs.Editions.{first_edition}
 use Rattle.semantics.specs.TablesRead.{read_tables}
 use Rattle.text.proofs.Theory.Appending.{room_same, appended_same}
@@ -55,7 +55,7 @@ put_model-requires-clause-room c =
 pub put_line-requires : goal.put_line-requires
 put_line-requires c =
     let d = c.args.self.now in
-    room_same (refused_parts d.registers d.functions d.header c.args.answer.now (c.from-in-Err.ensures ∙ c.from-number.ensures) c.in-Err.is) c.requires
+    room_same (refused_parts d.registers d.functions d.header c.args.answer.now c.from-number.ensures c.in-Err.is) c.requires
 
 pub returns-in-Ok-Pass-clause-appended : goal.returns-in-Ok-Pass-clause-appended
 returns-in-Ok-Pass-clause-appended c =
@@ -81,5 +81,5 @@ returns-in-Ok-Fail-clause-appended c =
 pub returns-in-Err-clause-appended : goal.returns-in-Err-clause-appended
 returns-in-Err-clause-appended c =
     let d = c.args.self.now in
-    appended_same (sym (refused_parts d.registers d.functions d.header c.args.answer.now (c.from-in-Err.ensures ∙ c.from-number.ensures) c.in-Err.is))
+    appended_same (sym (refused_parts d.registers d.functions d.header c.args.answer.now c.from-number.ensures c.in-Err.is))
     c.put_line.ensures.appended
