@@ -1,5 +1,5 @@
 -- Demand 2, its half about macros: "Macros are read by document 01's grammar and have exactly the executions of Definition 2." (SPEC 8, 9.2)
--- It is one claim about a text and what `syntax::read` answers for it. The words are those of the source document.
+-- It is one claim about a text and what `syntax::read` answers for it, or `syntax::compiled`, in numbers. The words are those of the source document.
 use Rattle.std.specs.Prelude.{◌≡◌, ◌↔◌, List, ◌++◌, ℕ, ◌%◌, ltb, get_or}
 use Rattle.base.specs.Choice.{pick}
 use Rattle.letters.specs.declared.Letter.{Letter}

@@ -1,12 +1,16 @@
 -- How the code holds what reading a text gives: the macro in a struct, or the refusal.
-use Rattle.std.specs.Prelude.{ℕ, ◌+◌, ◌*◌, ◌-◌, List, [], ◌++◌, map, length, replicate, Result}
+use Rattle.std.specs.Prelude.{ℕ, ◌+◌, ◌*◌, ◌-◌, List, [], ◌++◌, map, length, replicate, ltb, Result, Ok, Err}
+use Rattle.base.specs.Choice.{pick}
 use Rattle.letters.specs.Editions.{most_registers, most_functions}
+use Rattle.letters.specs.MacroRefusalNumbers.{text_too_long}
+use Rattle.letters.specs.Reasons.{number_of}
 use Rattle.letters.specs.declared.reasons.Refused.{Refused}
 use Rattle.macros.specs.Points.{points, size_block}
+use Rattle.tokens.specs.Words as word
 use Rattle.tokens.specs.Tokens.{token_at}
-use Rattle.grammar.specs.Limits.{deepest_nesting}
+use Rattle.grammar.specs.Limits.{longest_text, deepest_nesting}
 use Rattle.grammar.specs.Grammar.{Macro, header_of, shown_registers, expanded}
-use Rattle.grammar.specs.Reading.{Got, got, exhausted, and_then, block, functions_t, tests_t, macro_read, finish_t, count_t}
+use Rattle.grammar.specs.Reading.{Got, got, exhausted, and_then, expect, block, register_names, functions_t, tests_t, macro_read, finish_t, count_t}
 use Rattle.phrases.specs.Codes.{read_as}
 use Rattle.blocks.specs.Held.{point_table, held_point}
 use Rattle.syntax.specs.declared.CompiledMacro as held
@@ -49,6 +53,11 @@ held_reading exhausted = record { refusal = 0; place = 0; program = no_macro }
 abbrev pub held_answer : Got Macro → Result held.CompiledMacro Refused
 held_answer g = read_as (λ m _. held_macro m) g
 
+-- an answer with a reason, with the number for it
+abbrev pub in_numbers : Result held.CompiledMacro Refused → MacroRead
+in_numbers (Ok m) = record { refusal = 0; place = 0; program = m }
+in_numbers (Err e) = record { refusal = number_of e.reason; place = e.place; program = no_macro }
+
 -- ---- declarations on the way
 
 abbrev pub held_registers : List ℕ → ℕ → Registers
@@ -77,3 +86,13 @@ module _ (s : List ℕ) where
   -- behind the registers
   unfoldable pub functions_from : List ℕ → ℕ → Got Macro
   functions_from rs b = and_then (functions_t s rs b (token_at s b)) λ r c. tests_from rs r.0 r.1 c
+
+  -- behind `vars`
+  unfoldable pub registers_from : ℕ → Got Macro
+  registers_from a = and_then (register_names s most_registers [] a) λ rs b. functions_from rs b
+
+  -- the whole text (`text_read_macro`: the reading of the grammar)
+  unfoldable pub text_read : Got Macro
+  text_read =
+      pick (ltb longest_text (length s)) (λ _. Got.refused text_too_long 0)
+      λ _. and_then (expect s word.vars_key 0) λ _ a. registers_from a

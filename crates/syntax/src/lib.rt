@@ -8,10 +8,10 @@ ghost use Rattle.grammar.specs.Spelled.{line_length};
 ghost use Rattle.grammar.specs.Grammar.{binary_of};
 ghost use Rattle.grammar.specs.Reading.{is_declared, listed_t, register_names as registersAt, line_from, functions_t, tests_t, arity_of};
 ghost use Rattle.tokens.specs.Tokens.{token_at};
-ghost use Rattle.grammar.proofs.Theory.Reading.{read_macro};
 ghost use Rattle.phrases.specs.Codes.{plain, read_as};
 ghost use Rattle.blocks.specs.Held.{progress};
 ghost use Rattle.syntax.specs.Answer.{no_macro, held_answer, held_reading, held_registers, held_functions, body_from, tests_from, functions_from};
+ghost use Rattle.syntax.specs.Answer.{text_read, in_numbers};
 ghost use Rattle.syntax.specs.Reads.{Reads};
 ghost use Rattle.syntax.specs.Top.{RegistersPadded, FunctionsPadded, padded_registers, padded_functions, Finishes, headed, arity_flag};
 ghost use Rattle.syntax.specs.Top.{hidden_count, RoomForHidden, spelled_behind};
@@ -456,7 +456,7 @@ fn read_rest(text: &[u8], rs: Registers) -> Result<CompiledMacro, Refused>
 
 /// Reads a macro, or says by which question it is refused and where.
 pub fn compiled(text: &[u8]) -> Result<CompiledMacro, Refused>
-    ensures { result ≡ held_answer (read_macro text.now) }
+    ensures { (result ≡ held_answer (text_read text.now)) × Reads text.now (in_numbers result) }
 {
     if LONGEST_TEXT < text.len() {
         return Err(Reason::TextTooLong.at(0));

@@ -22,7 +22,8 @@ use Rattle.letters.specs.declared.reasons.Refused.{Refused}
 use Rattle.letters.proofs.Theory.ReasonLaws.{number_of-reason_of}
 use Rattle.phrases.specs.Codes.{refused_as}
 use Rattle.syntax.specs.declared.CompiledMacro.{CompiledMacro}
-use Rattle.syntax.specs.Answer.{held_macro, no_macro, held_answer, held_reading}
+use Rattle.syntax.specs.Answer.{held_macro, no_macro, held_answer, held_reading, in_numbers, text_read}
+use Rattle.syntax.proofs.Theory.Answer.{text_read_macro}
 use Rattle.syntax.specs.Reads.{Reads}
 
 module _ (text : List ℕ) (r : MacroRead) (e : r ≡ held_reading (read_macro text)) where
@@ -80,6 +81,18 @@ module _ (text : List ℕ) {r : Result CompiledMacro Refused} (e : r ≡ held_an
           let number : n ≡ k = i ∙ ap (λ d. number_of d.reason) z ∙ number_of-reason_of k (omega arith) most in
           λ t. record { refusal = number t; place = (ap (λ d. d.place) z) t; program = j t }
       go exhausted w e = absurd (read_answers text w)
+
+  -- The Result that holds what the grammar reads has the contract of `compiled`.
+  pub reads_in_numbers : (r ≡ held_answer (text_read text)) × Reads text (in_numbers r)
+  reads_in_numbers = (e ∙ ap held_answer (sym (text_read_macro text)), go r refl)
+    where
+      go : (q : Result CompiledMacro Refused) → r ≡ q → Reads text (in_numbers q)
+      go (Ok p) h = reads text _ (numbered_macro h)
+      go (Err d) h = reads text _ (numbered_refusal h (number_of d.reason) refl no_macro refl)
+
+-- what `compiled` answers is what the grammar reads
+pub by_grammar : (text : List ℕ) {r : Result CompiledMacro Refused} → r ≡ held_answer (text_read text) → r ≡ held_answer (read_macro text)
+by_grammar text e = e ∙ ap held_answer (text_read_macro text)
 
 -- There is one answer at most.
 pub reads_once : (text : List ℕ) (r q : MacroRead) → Reads text r → Reads text q → r ≡ q

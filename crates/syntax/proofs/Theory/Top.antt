@@ -21,7 +21,7 @@ use Rattle.tokens.specs.Words as word
 use Rattle.grammar.specs.Tree.{Block}
 use Rattle.grammar.specs.Expanded.{expanded_block}
 use Rattle.grammar.specs.Grammar.{binary_of, header_of, expanded}
-use Rattle.grammar.specs.Reading.{Got, got, exhausted, and_then, expect, register_names, functions_t, tests_t, block, count_t}
+use Rattle.grammar.specs.Reading.{Got, got, exhausted, and_then, expect, register_names, functions_t, tests_t, block}
 use Rattle.grammar.proofs.Theory.Reading.{read_text, read_macro}
 use Rattle.grammar.proofs.Theory.Declarations.{registers_sound}
 use Rattle.grammar.proofs.Theory.Whole.{none_declared}
@@ -39,7 +39,8 @@ use Rattle.blocks.proofs.Theory.CycleLaws.{exit}
 use Rattle.blocks.specs.declared.PointEntry.{PointEntry}
 use Rattle.blocks.specs.declared.points.Points.{Points}
 use Rattle.syntax.specs.Answer.{padded, held_macro, held_answer, held_registers, held_functions, end_from, body_from, tests_from, functions_from}
-use Rattle.syntax.proofs.Theory.Answer.{registers_from}
+use Rattle.syntax.specs.Answer.{registers_from}
+use Rattle.syntax.proofs.Theory.Answer.{steps}
 use Rattle.syntax.specs.Lists.{NamesPadded}
 use Rattle.syntax.proofs.Theory.Lists.{kept_list, functions_size, tests_size}
 use Rattle.syntax.proofs.Theory.Hidden.{hidden_length}
@@ -318,25 +319,9 @@ module _ (s : List ℕ) (rs : Registers) {f : Result Functions Refused} (h : f �
 
 -- ---- the whole text
 
-assoc : {A B C : Type 0} (x : Got A) (f : A → ℕ → Got B) (g : B → ℕ → Got C) (h : A → ℕ → Got C) → ((a : A) (e : ℕ) → and_then (f a e) g ≡ h a e)
-    → and_then (and_then x f) g ≡ and_then x h
-assoc (got a e) f g h k = k a e
-assoc (Got.refused n p) f g h k = refl
-assoc exhausted f g h k = refl
-
 pub read_long : (s : List ℕ) → longest_text < length s → {u : Refused} → u ≡ refused_as text_too_long 0 → Err u ≡ held_answer (read_macro s)
 unfolding read_macro read_text
 read_long s h g = rw (lt-ltb longest_text (length s) h) (ap Err g)
-
-steps : (s : List ℕ) → length s ≤ longest_text → read_macro s ≡ and_then (expect s word.vars_key 0) λ _ a. registers_from s a
-unfolding read_macro read_text registers_from functions_from tests_from body_from
-steps s h =
-    rw (le-ltb longest_text (length s) h)
-    (assoc (expect s word.vars_key 0) _ (count_t s) _ λ _ a.
-    assoc (register_names s most_registers [] a) _ (count_t s) _ λ rs b.
-    assoc (functions_t s rs b (token_at s b)) _ (count_t s) _ λ r c.
-    assoc (tests_t s rs r.0 r.1 c (token_at s c)) _ (count_t s) _ λ q d.
-    assoc (block s rs q.0 q.1 (length r.0) (2 * length s + 1) deepest_nesting d) _ (count_t s) _ λ body e. refl)
 
 module _ (s : List ℕ) (l : length s ≤ longest_text) {g : Result ℕ Refused} (i : g ≡ without_value (expect s word.vars_key 0)) where
   pub read_vars : {e : Refused} → g ≡ Err e → {w : Result CompiledMacro Refused} → IsErr w × IsErrAnd w (λ d. d ≡ e) → w ≡ held_answer (read_macro s)
