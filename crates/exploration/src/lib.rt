@@ -233,6 +233,8 @@ fn explore(
 
 /// The whole search in a table that holds n pairs: from the pair of the first point and the fresh window on. `end` is the number of points.
 /// The count of the pairs, or why it stops. For a caller that has counted the table's room, and whose points were read.
+// It is not inlined: so the search takes the place on the stack that reading the text had, and that the model gets.
+#[inline(never)]
 pub fn search_pairs(
     header: Header,
     points: [PointEntry; POINTS],
