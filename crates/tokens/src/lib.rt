@@ -121,7 +121,8 @@ struct TokenNumbers {
 fn is_blank(b: u8) -> bool
     ensures { result ≡ blank b }
 {
-    matches!(b, b' ' | b'\t' | b'\r' | b'\n')
+    // most bytes are above the blank, which one comparison tells
+    b <= b' ' && matches!(b, b' ' | b'\t' | b'\r' | b'\n')
 }
 
 // The byte in lower case.
@@ -181,10 +182,11 @@ fn skip_gap(text: &[u8], from: usize) -> usize
         let b = text[at];
         if comment {
             comment = b != b'\n';
-        } else if b == b'#' {
-            comment = true;
         } else if !is_blank(b) {
-            return at;
+            if b != b'#' {
+                return at;
+            }
+            comment = true;
         }
     }
     from.max(text.len())

@@ -38,6 +38,10 @@ module _ (s : List ℕ) (at : ℕ) where
   unfolding gap
   gap_stop h e f = rw (drop-cons s at 0 h, e, f)
 
+-- `#` is no blank
+pub no_hash : (b : ℕ) → blank b ≡ true → b ≡ 35 → ⊥
+no_hash b t e = let f : false ≡ true = rw e at t in cc
+
 -- ---- the turns of the loop over a gap, from a place `from` on
 
 module _ (s : List ℕ) (from at : ℕ) where
