@@ -19,6 +19,12 @@ use Rattle.text.proofs.Theory.Numerals.{numeral_length, long_number}
 use Rattle.text.proofs.Theory.Names.{name_length}
 use Rattle.text.specs.Appending.{PlaceInRange}
 use Rattle.std.specs.Prelude.{Ok, Err}
+use Rattle.letters.specs.Reasons.{number_of}
+use Rattle.letters.specs.declared.reasons.Reason.{Reason}
+use Rattle.letters.specs.declared.reasons.Reason.TheVariants.{TraceTooShort, TraceOddLength, HeaderMalformed, LetterMalformed, TraceTooLong, OutputTooSmall}
+use Rattle.letters.specs.declared.reasons.Reason.TheVariants.{TextTooLong, TokenMalformed, GrammarViolated, DeclarationWrong, UseWrong, NestingTooDeep}
+use Rattle.letters.specs.declared.reasons.Reason.TheVariants.{PointsTooMany, TableTooSmall, PrintTooLong, NoRoomForTests}
+use Rattle.letters.specs.declared.reasons.Refused.{Refused}
 use Rattle.report.specs.Shown.{Reported}
 use Rattle.report.specs.declared.ReportedVerdict.TheVariants.{Pass, Incoherent, Fail}
 use Rattle.report.specs.Lines.{Names, values_word, pass_word, incoherent_word, fail_word, line, lines_of, letter_line, start_lines, row_line}
@@ -27,6 +33,29 @@ use Rattle.report.specs.Shown.{names_of, letters_in, model_start, printed_of, re
 use Rattle.report.proofs.Theory.ShownLaws.{units_count, second_read, letters_length, word_bytes, execution_parts, model_parts}
 use Rattle.report.specs.Shown.{word_at}
 use Rattle.report.specs.Bound.{Limited, letter_number, row_number}
+
+-- ── a refusal by a reason ──
+pub number_small : (r : Reason) → number_of r < 256
+number_small TraceTooShort = omega arith
+number_small TraceOddLength = omega arith
+number_small HeaderMalformed = omega arith
+number_small LetterMalformed = omega arith
+number_small TraceTooLong = omega arith
+number_small OutputTooSmall = omega arith
+number_small TextTooLong = omega arith
+number_small TokenMalformed = omega arith
+number_small GrammarViolated = omega arith
+number_small DeclarationWrong = omega arith
+number_small UseWrong = omega arith
+number_small NestingTooDeep = omega arith
+number_small PointsTooMany = omega arith
+number_small TableTooSmall = omega arith
+number_small PrintTooLong = omega arith
+number_small NoRoomForTests = omega arith
+
+-- What the type of its place says is all that the laws below ask of it.
+pub reason_limited : (r : Refused) → r.place < 2 ^ 64 → Limited (Err record { number = number_of r.reason; place = r.place })
+reason_limited r l = (number_small r.reason, l)
 
 abbrev pub bound : Header → Reported → List ℕ → ℕ
 bound h v s = 67 + 40 * letter_number v + 21 * h.registers + 28 * row_number v s
